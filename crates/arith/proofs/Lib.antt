@@ -1,0 +1,6 @@
+-- The crate's own laws.
+pub mod Squares
+pub mod Quotients
+pub mod Roots
+pub mod Fractions
+pub mod Examples

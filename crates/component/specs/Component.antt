@@ -1,0 +1,98 @@
+-- Document 01, "Component data": "Exactly these fields, in this order." "Fields in their order, then 12".
+use Prim.Native.Nat.{ℕ, _*_}
+use mathlib.Core.Bool.{Bool}
+use mathlib.Core.List.{List}
+use lib.Dec.{leb, eqb}
+use lib.ListN.{length}
+use Rattle.refusal.specs.Outcome.{Outcome, accepted, _>>=_, require, if_then_else_}
+use Rattle.grid.specs.Axis.{_to_, firstStep}
+use Rattle.component.specs.Field.{field, exactly, numbers, number, axis}
+use Rattle.component.specs.Sensor.{sensor}
+use Rattle.component.specs.declared.sensor.Sensor.{Sensor}
+
+-- the rows of tag 8: the bytes of its body, and the place of the first
+pub record Rows : Type 0 where
+  pub start : ℕ
+  pub bytes : List ℕ
+
+-- "kind, 1 standard or 2 measured", with the fields that are "measured only"
+pub data Kind : Type 0 where
+  standard : Kind
+  measured : (input output : Sensor) (rows : Rows) → Kind
+
+-- what component data says
+pub record Component : Type 0 where
+  pub kind : Kind
+  pub line : ℕ
+  pub ratio : ℕ
+  pub speeds : List ℕ
+  pub torques : List ℕ
+
+-- what a run of fields says, and the place past it
+pub record Run (A : Type 0) : Type 0 where
+  pub value : A
+  pub next : ℕ
+
+-- tags 1 to 3
+pub record Axle : Type 0 where
+  pub kind : ℕ
+  pub line : ℕ
+  pub ratio : ℕ
+
+unfoldable pub axleFields : List ℕ → ℕ → Outcome (Run Axle)
+axleFields bytes at = do
+  kind ← field bytes at 1 (exactly 1) (number (1 to 2))
+  line ← field bytes (kind .next) 2 (exactly 1) (number (1 to 5))
+  ratio ← field bytes (line .next) 3 (exactly 2) (number (1000 to 20000))
+  accepted (record {
+    value = record { kind = kind .value; line = line .value; ratio = ratio .value };
+    next = ratio .next;
+  })
+
+-- tags 4 and 5; "then numbers left to right (at each, 4 before 5), then 6"
+pub record Axes : Type 0 where
+  pub speeds : List ℕ
+  pub torques : List ℕ
+
+unfoldable pub axesFields : List ℕ → ℕ → Outcome (Run Axes)
+axesFields bytes at = do
+  speeds ← field bytes at 4 (numbers 2 32) (axis (1 to 3000))
+  torques ← field bytes (speeds .next) 5 (numbers 2 64) (axis (0 to 50000))
+  _ ← require (firstStep (torques .value)) 6 (torques .start)
+  accepted (record {
+    value = record { speeds = speeds .value; torques = torques .value };
+    next = torques .next;
+  })
+
+-- the body of tag 8, which is looked at only when a map is built
+abbrev pub rows : List ℕ → ℕ → Outcome Rows
+rows body place = accepted (record { start = place; bytes = body })
+
+-- tags 6 to 8, for so many points. Tag 8: "exactly 8 × speeds × torques" bytes
+unfoldable pub measuredFields : List ℕ → ℕ → ℕ → Outcome (Run Kind)
+measuredFields bytes at points = do
+  input ← field bytes at 6 (exactly 18) sensor
+  output ← field bytes (input .next) 7 (exactly 18) sensor
+  body ← field bytes (output .next) 8 (exactly (8 * points)) rows
+  accepted (record { value = measured (input .value) (output .value) (body .value); next = body .next })
+
+-- what follows the axes
+unfoldable pub kindFields : List ℕ → ℕ → ℕ → ℕ → Outcome (Run Kind)
+kindFields bytes at kind points =
+    if eqb kind 1 then accepted (record { value = standard; next = at }) else
+    measuredFields bytes at points
+
+-- component data: the fields in their order, then nothing more
+unfoldable pub component : List ℕ → Outcome Component
+component bytes = do
+  axle ← axleFields bytes 0
+  axes ← axesFields bytes (axle .next)
+  kind ← kindFields bytes (axes .next) (axle .value .kind) (length (axes .value .speeds) * length (axes .value .torques))
+  _ ← require (leb (length bytes) (kind .next)) 12 (kind .next)
+  accepted (record {
+    kind = kind .value;
+    line = axle .value .line;
+    ratio = axle .value .ratio;
+    speeds = axes .value .speeds;
+    torques = axes .value .torques;
+  })

@@ -1,0 +1,209 @@
+// "The reading place only moves forward, one field at a time": a cursor by value whose methods return the advanced cursor.
+use crate::numbers;
+use crate::sensor;
+use crate::sensor::Sensor;
+use crate::sensor::SensorRead;
+use grid::AxisFault;
+use grid::Range;
+use refusal::Refusal;
+ghost use mathlib.Core.Path.{_≡_};
+ghost use Prim.Native.Nat.{_+_, _*_, _/_, _≤_, _<_, _^_};
+ghost use lib.ListN.{length, take};
+ghost use Rattle.component.specs.Field.{head, field, exactly, numbers as numbersFrom, number, axis};
+ghost use Rattle.component.specs.Sensor.{sensor};
+ghost use Rattle.component.specs.Answers.{allowedOf, fieldReadOf, numberReadOf, numbersReadOf, axisReadOf, CountWithin, sensorFieldReadOf};
+
+pub struct Cursor {
+    pub at: usize,
+}
+
+// The lengths that a body may have.
+pub enum Allowed {
+    // So many bytes.
+    Exactly(usize),
+    // From the first to the second many numbers of two bytes.
+    Numbers(usize, usize),
+}
+
+fn allows(allowed: Allowed, length: usize) -> bool
+    ensures { λ r. ⌜ r ≡ allowedOf allowed length ⌝ }
+{
+    match allowed {
+        Allowed::Exactly(bytes) => length == bytes,
+        Allowed::Numbers(fewest, most) => {
+            (length % 2 == 0) & ((fewest <= length / 2) & (length / 2 <= most))
+        }
+    }
+}
+
+// A field whose head is right and whose body is there: the body starts at start and ends before next.
+pub enum FieldRead {
+    Field {
+        kind: u8,
+        start: usize,
+        next: Cursor,
+    },
+    Refused(Refusal),
+}
+
+impl Cursor {
+    // The field that is due here.
+    pub fn field(self, data: &[u8], tag: u8, allowed: Allowed) -> FieldRead
+        ensures { λ r. ⌜ fieldReadOf r ≡ head (now («data» .entry)) (self .at) tag (allowedOf allowed) ⌝ }
+    {
+        let at = self.at;
+        if data.len() <= at {
+            return FieldRead::Refused(Refusal::WrongTag(at));
+        }
+        if data.len() - at < 3 {
+            return FieldRead::Refused(Refusal::Incomplete(at));
+        }
+        if data[at] != tag {
+            return FieldRead::Refused(Refusal::WrongTag(at));
+        }
+        let length_at = at + 1;
+        let start = at + 3;
+        let length = numbers::number_of(&data[length_at..start]) as usize;
+        if !allows(allowed, length) {
+            return FieldRead::Refused(Refusal::WrongLength(at));
+        }
+        if data.len() - start < length {
+            return FieldRead::Refused(Refusal::Incomplete(at));
+        }
+        FieldRead::Field {
+            kind: tag,
+            start,
+            next: Cursor { at: start + length },
+        }
+    }
+}
+
+// A field of one number: where its body starts, and the cursor past it.
+pub struct NumberField {
+    pub value: u16,
+    pub start: usize,
+    pub next: Cursor,
+}
+
+pub enum NumberRead {
+    Read(NumberField),
+    Refused(Refusal),
+}
+
+// Whether the numbers of an axis body are right.
+pub enum NumbersRead {
+    Fine,
+    Refused(Refusal),
+}
+
+// The numbers of an axis body, written to the first places of what is lent; place is where the body starts in the data.
+fn read_numbers(body: &[u8], place: usize, range: Range, numbers: &mut [u16]) -> NumbersRead
+    requires { ⌜ (length (now body) ≤ length (now numbers) * 2) × (place + length (now body) < 2 ^ 64) ⌝ }
+    ensures { λ r. ⌜ numbersReadOf r (take (length (now (body .entry)) / 2) (now (numbers .exit))) ≡ axis range (now (body .entry)) place ⌝ }
+{
+    numbers::fill(body, numbers);
+    let count = body.len() / 2;
+    match grid::axis_fault(&numbers[0..count], range) {
+        AxisFault::OutOfRange(i) => NumbersRead::Refused(Refusal::OutOfRange(place + 2 * i)),
+        AxisFault::NotRising(i) => NumbersRead::Refused(Refusal::NotRising(place + 2 * i)),
+        AxisFault::Nothing => NumbersRead::Fine,
+    }
+}
+
+// A field of axis numbers: how many there are, where the first stands, and the cursor past them.
+pub struct AxisField {
+    pub count: usize,
+    pub start: usize,
+    pub next: Cursor,
+}
+
+pub enum AxisRead {
+    Read(AxisField),
+    Refused(Refusal),
+}
+
+// A field of a sensor's numbers: where the first stands, and the cursor past them.
+pub struct SensorField {
+    pub sensor: Sensor,
+    pub start: usize,
+    pub next: Cursor,
+}
+
+pub enum SensorFieldRead {
+    Read(SensorField),
+    Refused(Refusal),
+}
+
+impl Cursor {
+    // The field of one number of one byte or two.
+    pub fn number(self, data: &[u8], tag: u8, bytes: usize, range: Range) -> NumberRead
+        requires { ⌜ (1 ≤ bytes) × (bytes ≤ 2) ⌝ }
+        ensures { λ r. ⌜ numberReadOf r ≡ field (now («data» .entry)) (self .at) tag (exactly bytes) (number range) ⌝ }
+    {
+        match self.field(data, tag, Allowed::Exactly(bytes)) {
+            FieldRead::Refused(x) => NumberRead::Refused(x),
+            FieldRead::Field {
+                kind: _,
+                start,
+                next,
+            } => {
+                let end = next.at;
+                let value = numbers::number_of(&data[start..end]);
+                if grid::within(range, value) {
+                    NumberRead::Read(NumberField { value, start, next })
+                } else {
+                    NumberRead::Refused(Refusal::OutOfRange(start))
+                }
+            }
+        }
+    }
+
+    // The field of axis numbers, from two to as many as there are places lent; they are written to the first of these.
+    pub fn axis(self, data: &[u8], tag: u8, range: Range, numbers: &mut [u16]) -> AxisRead
+        ensures { λ r. ⌜ (axisReadOf r (now (numbers .exit)) ≡ field (now («data» .entry)) (self .at) tag (numbersFrom 2 (length (now (numbers .entry)))) (axis range)) × CountWithin (length (now (numbers .entry))) r ⌝ }
+    {
+        match self.field(data, tag, Allowed::Numbers(2, numbers.len())) {
+            FieldRead::Refused(x) => AxisRead::Refused(x),
+            FieldRead::Field {
+                kind: _,
+                start,
+                next,
+            } => {
+                let end = next.at;
+                let body = &data[start..end];
+                match read_numbers(body, start, range, numbers) {
+                    NumbersRead::Refused(x) => AxisRead::Refused(x),
+                    NumbersRead::Fine => AxisRead::Read(AxisField {
+                        count: body.len() / 2,
+                        start,
+                        next,
+                    }),
+                }
+            }
+        }
+    }
+
+    // The field of a sensor.
+    pub fn sensor(self, data: &[u8], tag: u8) -> SensorFieldRead
+        ensures { λ r. ⌜ sensorFieldReadOf r ≡ field (now («data» .entry)) (self .at) tag (exactly 18) sensor ⌝ }
+    {
+        match self.field(data, tag, Allowed::Exactly(18)) {
+            FieldRead::Refused(x) => SensorFieldRead::Refused(x),
+            FieldRead::Field {
+                kind: _,
+                start,
+                next,
+            } => {
+                let end = next.at;
+                match sensor::read_body(&data[start..end], start) {
+                    SensorRead::Refused(x) => SensorFieldRead::Refused(x),
+                    SensorRead::Read(sensor) => SensorFieldRead::Read(SensorField {
+                        sensor,
+                        start,
+                        next,
+                    }),
+                }
+            }
+        }
+    }
+}

@@ -1,0 +1,336 @@
+// Reads component data: a run of fields, each a tag, a length in two bytes and a body.
+mod cursor;
+mod numbers;
+pub mod sensor;
+
+use cursor::Allowed;
+use cursor::AxisRead;
+use cursor::Cursor;
+use cursor::FieldRead;
+use cursor::NumberRead;
+use cursor::SensorFieldRead;
+use grid::Grid;
+use grid::Range;
+use grid::SpeedAxis;
+use grid::TorqueAxis;
+use refusal::Refusal;
+use sensor::Sensor;
+ghost use mathlib.Core.Path.{_≡_};
+ghost use Prim.Native.Nat.{_≤_};
+ghost use lib.ListN.{length};
+ghost use Rattle.component.specs.Component.{axleFields, axesFields, measuredFields, kindFields};
+ghost use Rattle.component.specs.Answers.{axleReadOf, axesReadOf, CountsWithin, measuredReadOf, kindReadOf, RowsWithin, NotMeasured, noSensor, noPart, componentFrom, NoNumbers, Reads};
+
+// A part of the data, from start up to end.
+pub struct Part {
+    pub start: usize,
+    pub end: usize,
+}
+
+// The numbers that component data says. The kind says which fields there are: of kind 1 the sensors and the rows mean nothing.
+pub struct Component {
+    // 1 standard, 2 measured
+    pub kind: u16,
+    // 1 SR, 2 SRT, 3 SP, 4 HR, 5 HRT
+    pub line: u16,
+    // thousandths
+    pub ratio: u16,
+    pub grid: Grid,
+    // the sensors of kind 2
+    pub input: Sensor,
+    pub output: Sensor,
+    // the part of the data that the rows of kind 2 occupy
+    pub rows: Part,
+}
+
+pub enum Answer {
+    Accepted,
+    Refused(Refusal),
+}
+
+// Where the answer is a refusal, the component means nothing.
+pub struct Reading {
+    pub answer: Answer,
+    pub component: Component,
+}
+
+const KINDS: Range = Range {
+    lowest: 1,
+    highest: 2,
+};
+
+const LINES: Range = Range {
+    lowest: 1,
+    highest: 5,
+};
+
+const RATIOS: Range = Range {
+    lowest: 1000,
+    highest: 20_000,
+};
+
+// Tags 1 to 3, and the cursor past them.
+pub struct Axle {
+    pub kind: u16,
+    pub line: u16,
+    pub ratio: u16,
+    pub next: Cursor,
+}
+
+pub enum AxleRead {
+    Read(Axle),
+    Refused(Refusal),
+}
+
+fn read_axle(data: &[u8], start: Cursor) -> AxleRead
+    ensures { λ r. ⌜ axleReadOf r ≡ axleFields (now («data» .entry)) (start .at) ⌝ }
+{
+    let kind = match start.number(data, 1, 1, KINDS) {
+        NumberRead::Refused(x) => return AxleRead::Refused(x),
+        NumberRead::Read(field) => field,
+    };
+    let line = match kind.next.number(data, 2, 1, LINES) {
+        NumberRead::Refused(x) => return AxleRead::Refused(x),
+        NumberRead::Read(field) => field,
+    };
+    let ratio = match line.next.number(data, 3, 2, RATIOS) {
+        NumberRead::Refused(x) => return AxleRead::Refused(x),
+        NumberRead::Read(field) => field,
+    };
+    let next = ratio.next;
+    AxleRead::Read(Axle {
+        kind: kind.value,
+        line: line.value,
+        ratio: ratio.value,
+        next,
+    })
+}
+
+// Tags 4 and 5: the cursor past them, or the refusal.
+pub enum AxesAnswer {
+    Read(Cursor),
+    Refused(Refusal),
+}
+
+pub struct Axes {
+    pub answer: AxesAnswer,
+    pub grid: Grid,
+}
+
+// Axes with no numbers.
+fn no_grid() -> Grid
+    ensures { λ r. ⌜ (r .speeds .count ≡ 0) × (r .torques .count ≡ 0) ⌝ }
+{
+    let speeds = SpeedAxis {
+        numbers: [0u16; 32],
+        count: 0,
+    };
+    let torques = TorqueAxis {
+        numbers: [0u16; 64],
+        count: 0,
+    };
+    Grid { speeds, torques }
+}
+
+fn refused_axes(x: Refusal) -> Axes
+    ensures { λ r. ⌜ (r .answer ≡ AxesAnswer.Refused x) × (r .grid .speeds .count ≡ 0) × (r .grid .torques .count ≡ 0) ⌝ }
+{
+    let grid = no_grid();
+    Axes {
+        answer: AxesAnswer::Refused(x),
+        grid,
+    }
+}
+
+fn read_axes(data: &[u8], start: Cursor) -> Axes
+    ensures { λ r. ⌜ (axesReadOf r ≡ axesFields (now («data» .entry)) (start .at)) × CountsWithin (r .grid) ⌝ }
+{
+    let mut speeds = [0u16; 32];
+    let speed = match start.axis(data, 4, grid::SPEED_RANGE, &mut speeds) {
+        AxisRead::Refused(x) => return refused_axes(x),
+        AxisRead::Read(field) => field,
+    };
+    let mut torques = [0u16; 64];
+    let torque = match speed.next.axis(data, 5, grid::TORQUE_RANGE, &mut torques) {
+        AxisRead::Refused(x) => return refused_axes(x),
+        AxisRead::Read(field) => field,
+    };
+    if !grid::first_step_holds(torques[0], torques[1]) {
+        return refused_axes(Refusal::FirstTorqueAboveStep(torque.start));
+    }
+    let next = torque.next;
+    let speed_axis = SpeedAxis {
+        numbers: speeds,
+        count: speed.count,
+    };
+    let torque_axis = TorqueAxis {
+        numbers: torques,
+        count: torque.count,
+    };
+    Axes {
+        answer: AxesAnswer::Read(next),
+        grid: Grid {
+            speeds: speed_axis,
+            torques: torque_axis,
+        },
+    }
+}
+
+// Tags 6 to 8, and the cursor past them.
+pub struct Measured {
+    pub input: Sensor,
+    pub output: Sensor,
+    pub rows: Part,
+    pub next: Cursor,
+}
+
+pub enum MeasuredRead {
+    Read(Measured),
+    Refused(Refusal),
+}
+
+fn read_measured(data: &[u8], start: Cursor, points: usize) -> MeasuredRead
+    requires { ⌜ points ≤ 2048 ⌝ }
+    ensures { λ r. ⌜ (measuredReadOf (now («data» .entry)) r ≡ measuredFields (now («data» .entry)) (start .at) points) × RowsWithin (length (now («data» .entry))) r ⌝ }
+{
+    let input = match start.sensor(data, 6) {
+        SensorFieldRead::Refused(x) => return MeasuredRead::Refused(x),
+        SensorFieldRead::Read(field) => field,
+    };
+    let output = match input.next.sensor(data, 7) {
+        SensorFieldRead::Refused(x) => return MeasuredRead::Refused(x),
+        SensorFieldRead::Read(field) => field,
+    };
+    match output.next.field(data, 8, Allowed::Exactly(8 * points)) {
+        FieldRead::Refused(x) => MeasuredRead::Refused(x),
+        FieldRead::Field {
+            kind: _,
+            start,
+            next,
+        } => {
+            let input_sensor = input.sensor;
+            let output_sensor = output.sensor;
+            MeasuredRead::Read(Measured {
+                input: input_sensor,
+                output: output_sensor,
+                rows: Part {
+                    start,
+                    end: next.at,
+                },
+                next,
+            })
+        }
+    }
+}
+
+// What stands in place of a sensor where there is none.
+fn no_sensor() -> Sensor
+    ensures { λ r. ⌜ r ≡ noSensor ⌝ }
+{
+    Sensor {
+        nominal: 0,
+        sensitivity: 0,
+        zero: 0,
+        calibration: 0,
+        advancement: 0,
+        parasitic: 0,
+        share: 0,
+        difference: 0,
+        span: 0,
+    }
+}
+
+// What stands in place of tags 6 to 8 where there are none.
+fn not_measured(next: Cursor) -> Measured
+    ensures { λ r. ⌜ (r .input ≡ noSensor) × (r .output ≡ noSensor) × (r .rows ≡ noPart) × (r .next ≡ next) ⌝ }
+{
+    let input = no_sensor();
+    let output = no_sensor();
+    Measured {
+        input,
+        output,
+        rows: Part { start: 0, end: 0 },
+        next,
+    }
+}
+
+// What follows the axes.
+fn read_kind(data: &[u8], start: Cursor, kind: u16, points: usize) -> MeasuredRead
+    requires { ⌜ points ≤ 2048 ⌝ }
+    ensures { λ r. ⌜ (kindReadOf (now («data» .entry)) kind r ≡ kindFields (now («data» .entry)) (start .at) kind points) × RowsWithin (length (now («data» .entry))) r × NotMeasured kind r ⌝ }
+{
+    if kind == 1 {
+        return MeasuredRead::Read(not_measured(start));
+    }
+    read_measured(data, start, points)
+}
+
+fn refused(x: Refusal) -> Reading
+    ensures { λ r. ⌜ (r .answer ≡ Answer.Refused x) × NoNumbers (r .component) ⌝ }
+{
+    let grid = no_grid();
+    let input = no_sensor();
+    let output = no_sensor();
+    let component = Component {
+        kind: 0,
+        line: 0,
+        ratio: 0,
+        grid,
+        input,
+        output,
+        rows: Part { start: 0, end: 0 },
+    };
+    Reading {
+        answer: Answer::Refused(x),
+        component,
+    }
+}
+
+fn accepted(axle: Axle, grid: Grid, measured: Measured) -> Reading
+    ensures { λ r. ⌜ r ≡ record { answer = Answer.Accepted; component = componentFrom axle grid measured } ⌝ }
+{
+    let input = measured.input;
+    let output = measured.output;
+    let rows = measured.rows;
+    let component = Component {
+        kind: axle.kind,
+        line: axle.line,
+        ratio: axle.ratio,
+        grid,
+        input,
+        output,
+        rows,
+    };
+    Reading {
+        answer: Answer::Accepted,
+        component,
+    }
+}
+
+// Reads the fields in their order; then nothing may follow.
+pub fn read(data: &[u8]) -> Reading
+    ensures { λ r. ⌜ Reads (now («data» .entry)) r ⌝ }
+{
+    let start = Cursor { at: 0 };
+    let axle = match read_axle(data, start) {
+        AxleRead::Refused(x) => return refused(x),
+        AxleRead::Read(axle) => axle,
+    };
+    let axes = read_axes(data, axle.next);
+    let answer = axes.answer;
+    let next = match answer {
+        AxesAnswer::Refused(x) => return refused(x),
+        AxesAnswer::Read(next) => next,
+    };
+    let grid = axes.grid;
+    let points = grid.speeds.count * grid.torques.count;
+    let measured = match read_kind(data, next, axle.kind, points) {
+        MeasuredRead::Refused(x) => return refused(x),
+        MeasuredRead::Read(measured) => measured,
+    };
+    let end = measured.next.at;
+    if end < data.len() {
+        return refused(Refusal::TrailingBytes(end));
+    }
+    accepted(axle, grid, measured)
+}

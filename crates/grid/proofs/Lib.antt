@@ -1,0 +1,5 @@
+pub mod Every
+pub mod Numbers
+pub mod Axis
+pub mod Bound
+pub mod Map

@@ -1,0 +1,5 @@
+pub mod Every
+pub mod Axis
+pub mod Fault
+pub mod Map
+pub mod Parts
