@@ -1,94 +1,66 @@
-use mathlib.Core.Path.{_≡_, sym, _∙_, refl}
 use native.Mathlib.Omega.{arith}
 use Rattle.component.proofs.Readings.{points, points-most, axle-refused, axes-refused, kind-refused, bytes-left, all-read, refused-reading}
 use borrow.Author.Needs.{needs}
 use Rattle.component.proofs.read.Statement.{statement}
 use Rattle.component.proofs.read.Tie as tie
-use Rattle.component.proofs.read.Reads as reads
-use Rattle.component.proofs.read.Lts as lts
-use Rattle.component.proofs.accepted.Reads as accepted-reads
-use Rattle.component.proofs.read_axes.Reads as read-axes-reads
-use Rattle.component.proofs.read_axle.Reads as read-axle-reads
-use Rattle.component.proofs.read_kind.Reads as read-kind-reads
-use Rattle.component.proofs.refused.Reads as refused-reads
 
--- src/lib.rt:312:22
 read-axle-requires : tie.Need-read-axle-requires
 read-axle-requires c κs = search needs
 
--- src/lib.rt:313:27
 enum-known-x : tie.Need-enum-known-x
 enum-known-x c = search needs
 
--- src/lib.rt:313:33
 refused-requires : tie.Need-refused-requires
 refused-requires c κs = search needs
 
--- src/lib.rt:313:33
 returns : tie.Need-returns
 returns c = refused-reading _ _ _ (c .refused .ensures) (axle-refused _ _ (rw (c .before .before .x .given .1) at (c .before .before .before .before .read-axle .ensures)))
 
--- src/lib.rt:314:24
 enum-known-axle : tie.Need-enum-known-axle
 enum-known-axle c = search needs
 
--- src/lib.rt:316:9
 read-axes-requires : tie.Need-read-axes-requires
 read-axes-requires c κs = search needs
 
--- src/lib.rt:319:29
 enum-known-answer : tie.Need-enum-known-answer
 enum-known-answer c = search needs
 
--- src/lib.rt:319:35
 refused-requires-2 : tie.Need-refused-requires-2
 refused-requires-2 c κs = search needs
 
--- src/lib.rt:319:35
 returns-2 : tie.Need-returns-2
 returns-2 c = refused-reading _ _ _ (c .refused2 .ensures) (axes-refused _ _ (rw (c .before .before .before .before .before .before .axle .given .1) at (c .before .before .before .before .before .before .before .before .read-axle .ensures)) _ (rw (c .before .before .answer .given .1) at (c .before .before .before .before .read-axes .ensures .0)))
 
--- src/lib.rt:320:26
 enum-known-answer-2 : tie.Need-enum-known-answer-2
 enum-known-answer-2 c = search needs
 
--- src/lib.rt:323:18
 mul-points : tie.Need-mul-points
 mul-points c = omega (arith, points-most _ (c .before .before .before .before .before .read-axes .ensures .1))
 
--- src/lib.rt:324:26
 read-kind-requires : tie.Need-read-kind-requires
 read-kind-requires c κs = points-most _ (c .before .before .before .before .before .read-axes .ensures .1)
 
--- src/lib.rt:325:31
 enum-known-x-2 : tie.Need-enum-known-x-2
 enum-known-x-2 c = search needs
 
--- src/lib.rt:325:37
 refused-requires-3 : tie.Need-refused-requires-3
 refused-requires-3 c κs = search needs
 
--- src/lib.rt:325:37
 returns-3 : tie.Need-returns-3
 returns-3 c = refused-reading _ _ _ (c .refused3 .ensures) (kind-refused _ _ (rw (c .before .before .before .before .before .before .before .before .before .before .before .before .axle .given .1) at (c .before .before .before .before .before .before .before .before .before .before .before .before .before .before .read-axle .ensures)) _ (rw (c .before .before .before .before .before .before .before .before .answer2 .given .1) at (c .before .before .before .before .before .before .before .before .before .before .read-axes .ensures .0)) _ (points _ (c .before .before .before .before .before .before .before .before .before .before .read-axes .ensures .1)) _ (rw (c .before .before .x2 .given .1) at (c .before .before .before .before .read-kind .ensures .0)))
 
--- src/lib.rt:326:28
 enum-known-measured : tie.Need-enum-known-measured
 enum-known-measured c = search needs
 
--- src/lib.rt:330:9
 refused-requires-4 : tie.Need-refused-requires-4
 refused-requires-4 c κs = search needs
 
--- src/lib.rt:330:9
 returns-4 : tie.Need-returns-4
 returns-4 c = refused-reading _ _ _ (c .refused4 .ensures) (bytes-left _ _ (rw (c .before .before .before .before .before .before .before .before .before .before .before .before .before .axle .given .1) at (c .before .before .before .before .before .before .before .before .before .before .before .before .before .before .before .read-axle .ensures)) _ (rw (c .before .before .before .before .before .before .before .before .before .answer2 .given .1) at (c .before .before .before .before .before .before .before .before .before .before .before .read-axes .ensures .0)) _ (points _ (c .before .before .before .before .before .before .before .before .before .before .before .read-axes .ensures .1)) _ (rw (c .before .before .before .measured .given .1) at (c .before .before .before .before .before .read-kind .ensures .0)) (c .before .if1 .taken))
 
--- src/lib.rt:332:5
 accepted-requires : tie.Need-accepted-requires
 accepted-requires c κs = search needs
 
--- src/lib.rt:308:1
 returns-5 : tie.Need-returns-5
 returns-5 c =
     rw (c .accepted .ensures)

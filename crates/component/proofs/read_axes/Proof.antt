@@ -8,84 +8,61 @@ use Rattle.component.proofs.Bodies.{first-step}
 use borrow.Author.Needs.{needs}
 use Rattle.component.proofs.read_axes.Statement.{statement}
 use Rattle.component.proofs.read_axes.Tie as tie
-use Rattle.component.proofs.read_axes.Reads as reads
-use Rattle.component.proofs.read_axes.Lts as lts
-use Rattle.component.proofs.cursor.Cursor.axis.Reads as axis-reads
-use Rattle.component.proofs.refused_axes.Reads as refused-axes-reads
-use Rattle.grid.proofs.first_step_holds.Reads as first-step-holds-reads
 
--- src/lib.rt:149:62
 slice-aggregate-axis : tie.Need-slice-aggregate-axis
 slice-aggregate-axis c = search needs
 
--- src/lib.rt:149:23
 axis-requires : tie.Need-axis-requires
 axis-requires c κs = search needs
 
--- src/lib.rt:150:27
 enum-known-x : tie.Need-enum-known-x
 enum-known-x c = search needs
 
--- src/lib.rt:150:33
 refused-axes-requires : tie.Need-refused-axes-requires
 refused-axes-requires c κs = search needs
 
--- src/lib.rt:150:33
 returns : tie.Need-returns
 unfolding axesFields
 returns c = (rw (c .refused-axes .ensures .0, ← (rw (c .before .before .x .given .1) at (c .before .before .before .before .before .axis .ensures .0))), no-counts _ (c .refused-axes .ensures .1) (c .refused-axes .ensures .2))
 
--- src/lib.rt:151:24
 enum-known-field : tie.Need-enum-known-field
 enum-known-field c = search needs
 
--- src/lib.rt:154:69
 slice-aggregate-axis-2 : tie.Need-slice-aggregate-axis-2
 slice-aggregate-axis-2 c = search needs
 
--- src/lib.rt:154:24
 axis-requires-2 : tie.Need-axis-requires-2
 axis-requires-2 c κs = search needs
 
--- src/lib.rt:155:27
 enum-known-x-2 : tie.Need-enum-known-x-2
 enum-known-x-2 c = search needs
 
--- src/lib.rt:155:33
 refused-axes-requires-2 : tie.Need-refused-axes-requires-2
 refused-axes-requires-2 c κs = search needs
 
--- src/lib.rt:155:33
 returns-2 : tie.Need-returns-2
 unfolding axesFields
 returns-2 c = (rw (c .refused-axes2 .ensures .0, ← (rw (c .before .before .before .before .before .before .before .before .field .given .1) at (c .before .before .before .before .before .before .before .before .before .before .before .axis .ensures .0)), ← (rw (c .before .before .x2 .given .1) at (c .before .before .before .before .before .axis2 .ensures .0))), no-counts _ (c .refused-axes2 .ensures .1) (c .refused-axes2 .ensures .2))
 
--- src/lib.rt:156:24
 enum-known-field-2 : tie.Need-enum-known-field-2
 enum-known-field-2 c = search needs
 
--- src/lib.rt:158:32
 array-read-first-step-holds : tie.Need-array-read-first-step-holds
 array-read-first-step-holds c = search needs
 
--- src/lib.rt:158:44
 array-read-first-step-holds-2 : tie.Need-array-read-first-step-holds-2
 array-read-first-step-holds-2 c = search needs
 
--- src/lib.rt:158:9
 first-step-holds-requires : tie.Need-first-step-holds-requires
 first-step-holds-requires c κs = search needs
 
--- src/lib.rt:159:9
 refused-axes-requires-3 : tie.Need-refused-axes-requires-3
 refused-axes-requires-3 c κs = search needs
 
--- src/lib.rt:159:9
 returns-3 : tie.Need-returns-3
 unfolding axesFields
 returns-3 c = (rw (c .refused-axes3 .ensures .0, ← (rw (c .before .before .before .before .before .before .before .before .before .before .field .given .1) at (c .before .before .before .before .before .before .before .before .before .before .before .before .before .axis .ensures .0)), ← (rw (c .before .before .before .before .field2 .given .1) at (c .before .before .before .before .before .before .before .axis2 .ensures .0)), first-step _ _ _ ((rw (c .before .before .before .before .field2 .given .1) at (c .before .before .before .before .before .before .before .axis2 .ensures .1)) .0) (sym (c .before .before .first-step-holds .ensures) ∙ not-true _ (c .before .if1 .taken))), no-counts _ (c .refused-axes3 .ensures .1) (c .refused-axes3 .ensures .2))
 
--- src/lib.rt:145:1
 returns-4 : tie.Need-returns-4
 unfolding axesFields
 returns-4 c = (

@@ -1,71 +1,52 @@
-use native.Mathlib.Omega.{arith}
 use Rattle.component.specs.Component.{measuredFields, rows}
 use Rattle.component.proofs.Heads.{inside, head-refused, body-accepted}
 use mathlib.Core.Path.{refl}
 use borrow.Author.Needs.{needs}
 use Rattle.component.proofs.read_measured.Statement.{statement}
 use Rattle.component.proofs.read_measured.Tie as tie
-use Rattle.component.proofs.read_measured.Reads as reads
-use Rattle.component.proofs.read_measured.Lts as lts
-use Rattle.component.proofs.cursor.Cursor.field.Reads as field-reads
-use Rattle.component.proofs.cursor.Cursor.sensor.Reads as sensor-reads
 
--- src/lib.rt:196:23
 sensor-requires : tie.Need-sensor-requires
 sensor-requires c κs = search needs
 
--- src/lib.rt:197:34
 enum-known-x : tie.Need-enum-known-x
 enum-known-x c = search needs
 
--- src/lib.rt:197:40
 returns : tie.Need-returns
 unfolding measuredFields
 returns c = (rw (← (rw (c .before .x .given .1) at (c .before .before .before .sensor .ensures))), tt)
 
--- src/lib.rt:198:31
 enum-known-field : tie.Need-enum-known-field
 enum-known-field c = search needs
 
--- src/lib.rt:200:24
 sensor-requires-2 : tie.Need-sensor-requires-2
 sensor-requires-2 c κs = search needs
 
--- src/lib.rt:201:34
 enum-known-x-2 : tie.Need-enum-known-x-2
 enum-known-x-2 c = search needs
 
--- src/lib.rt:201:40
 returns-2 : tie.Need-returns-2
 unfolding measuredFields
 returns-2 c = (rw (← (rw (c .before .before .before .before .before .field .given .1) at (c .before .before .before .before .before .before .before .sensor .ensures)), ← (rw (c .before .x2 .given .1) at (c .before .before .before .sensor2 .ensures))), tt)
 
--- src/lib.rt:202:31
 enum-known-field-2 : tie.Need-enum-known-field-2
 enum-known-field-2 c = search needs
 
--- src/lib.rt:204:55
 mul-t20 : tie.Need-mul-t20
 mul-t20 c = search needs
 
--- src/lib.rt:204:11
 field-requires : tie.Need-field-requires
 field-requires c κs = search needs
 
--- src/lib.rt:205:28
 enum-known-x-3 : tie.Need-enum-known-x-3
 enum-known-x-3 c = search needs
 
--- src/lib.rt:208:13
 enum-known-start : tie.Need-enum-known-start
 enum-known-start c = search needs
 
--- src/lib.rt:192:1
 returns-3 : tie.Need-returns-3
 unfolding measuredFields
 returns-3 c = (rw (← (rw (c .before .before .before .before .before .before .before .before .before .field .given .1) at (c .before .before .before .before .before .before .before .before .before .before .before .sensor .ensures)), ← (rw (c .before .before .before .before .before .field2 .given .1) at (c .before .before .before .before .before .before .before .sensor2 .ensures)), ← head-refused _ _ _ _ rows _ (rw (c .before .x3 .given .1) at (c .before .before .before .field3 .ensures))), tt)
 
--- src/lib.rt:192:1
 returns-4 : tie.Need-returns-4
 unfolding measuredFields
 returns-4 c =

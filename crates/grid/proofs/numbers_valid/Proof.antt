@@ -4,7 +4,6 @@ use mathlib.Core.Path.{_≡_, _∙_}
 use native.Mathlib.Omega.{arith}
 use borrow.Author.Needs.{needs}
 use Rattle.grid.specs.Every.{every}
-use Rattle.grid.specs.Axis.{_to_}
 use Rattle.grid.proofs.Every.{flag-first, flag-more, flag-done}
 use Rattle.grid.proofs.Numbers.{rightAt, right-first}
 use Rattle.grid.proofs.numbers_valid.Statement.{statement}

@@ -1,22 +1,16 @@
 use borrow.Author.Needs.{needs}
 use Rattle.component.proofs.cursor.allows.Statement.{statement}
 use Rattle.component.proofs.cursor.allows.Tie as tie
-use Rattle.component.proofs.cursor.allows.Reads as reads
-use Rattle.component.proofs.cursor.allows.Lts as lts
 
--- src/cursor.rt:32:26
 enum-known-allowed : tie.Need-enum-known-allowed
 enum-known-allowed c = search needs
 
--- src/cursor.rt:33:26
 enum-known-allowed-2 : tie.Need-enum-known-allowed-2
 enum-known-allowed-2 c = search needs
 
--- src/cursor.rt:28:1
 returns : tie.Need-returns
 returns c = rw (c .before .allowed .given .1)
 
--- src/cursor.rt:28:1
 returns-2 : tie.Need-returns-2
 returns-2 c = rw (c .before .allowed2 .given .1)
 

@@ -1,17 +1,13 @@
-use mathlib.Core.Path.{_≡_, refl}
+use mathlib.Core.Path.{refl}
 use Prim.Native.Nat.{_<_, _/_}
 use native.Mathlib.Omega.{arith}
 use native.Mathlib.Nat.{sub-zero}
-use lib.ListN.{length, take}
+use lib.ListN.{length}
 use denote.Ref.{now}
 use Rattle.component.proofs.Bodies.{axis-accepted, axis-refused, index-below}
 use borrow.Author.Needs.{needs}
 use Rattle.component.proofs.cursor.read_numbers.Statement.{statement}
 use Rattle.component.proofs.cursor.read_numbers.Tie as tie
-use Rattle.component.proofs.cursor.read_numbers.Reads as reads
-use Rattle.component.proofs.cursor.read_numbers.Lts as lts
-use Rattle.component.proofs.numbers.fill.Reads as fill-reads
-use Rattle.grid.proofs.axis_fault.Reads as axis-fault-reads
 
 -- the index is that of one of the body's numbers
 range-index : (c : tie.After-known-told) → c .before .i .given .0 .0 < length (now (c .before .before .before .before .before .before .before .before .before .before .before .before .args .body)) / 2
@@ -20,75 +16,57 @@ range-index c = index-below _ _ _ (c .before .before .before .before .before .be
 order-index : (c : tie.After-known-told2) → c .before .i2 .given .0 .0 < length (now (c .before .before .before .before .before .before .before .before .before .before .before .before .args .body)) / 2
 order-index c = index-below _ _ _ (c .before .before .before .before .before .before .before .before .before .before .before .before .args .place) _ (c .before .before .before .before .before .before .before .before .fill .ensures) _ (rw sub-zero refl) 5 _ (rw (c .before .i2 .given .1) at (c .before .before .before .axis-fault .ensures))
 
--- src/cursor.rt:102:5
 fill-requires : tie.Need-fill-requires
 fill-requires c κs = search needs
 
--- src/cursor.rt:104:28
 sub-axis-fault : tie.Need-sub-axis-fault
 sub-axis-fault c = search needs
 
--- src/cursor.rt:104:28
 part-axis-fault-start : tie.Need-part-axis-fault-start
 part-axis-fault-start c = search needs
 
--- src/cursor.rt:104:28
 part-axis-fault-end : tie.Need-part-axis-fault-end
 part-axis-fault-end c = search needs
 
--- src/cursor.rt:104:11
 axis-fault-requires : tie.Need-axis-fault-requires
 axis-fault-requires c κs = search needs
 
--- src/cursor.rt:105:31
 enum-known-i : tie.Need-enum-known-i
 enum-known-i c = search needs
 
--- src/cursor.rt:105:86
 mul-t17 : tie.Need-mul-t17
 mul-t17 c = omega (arith, range-index c)
 
--- src/cursor.rt:105:78
 add-t18 : tie.Need-add-t18
 add-t18 c = omega (arith, range-index c)
 
--- src/cursor.rt:106:30
 enum-known-i-2 : tie.Need-enum-known-i-2
 enum-known-i-2 c = search needs
 
--- src/cursor.rt:106:84
 mul-t20 : tie.Need-mul-t20
 mul-t20 c = omega (arith, order-index c)
 
--- src/cursor.rt:106:76
 add-t21 : tie.Need-add-t21
 add-t21 c = omega (arith, order-index c)
 
--- src/cursor.rt:107:31
 enum-told : tie.Need-enum-told
 enum-told c = search needs
 
--- src/cursor.rt:98:1
 same-length : tie.Need-same-length
 same-length c = search needs
 
--- src/cursor.rt:98:1
 returns : tie.Need-returns
 returns c = axis-refused _ _ _ _ _ (c .before .before .before .before .before .before .before .before .fill .ensures) _ (rw sub-zero refl) 4 _ (rw (c .before .i .given .1) at (c .before .before .before .axis-fault .ensures))
 
--- src/cursor.rt:98:1
 same-length-2 : tie.Need-same-length-2
 same-length-2 c = search needs
 
--- src/cursor.rt:98:1
 returns-2 : tie.Need-returns-2
 returns-2 c = axis-refused _ _ _ _ _ (c .before .before .before .before .before .before .before .before .fill .ensures) _ (rw sub-zero refl) 5 _ (rw (c .before .i2 .given .1) at (c .before .before .before .axis-fault .ensures))
 
--- src/cursor.rt:98:1
 same-length-3 : tie.Need-same-length-3
 same-length-3 c = search needs
 
--- src/cursor.rt:98:1
 returns-3 : tie.Need-returns-3
 returns-3 c = axis-accepted _ _ _ _ _ (c .before .before .before .before .before .before .before .fill .ensures) _ (rw sub-zero refl) (rw (c .enum-told .given .1) at (c .before .before .axis-fault .ensures))
 

@@ -1,12 +1,8 @@
 use Prim.Native.Nat.{_-_}
-use native.Mathlib.Omega.{arith}
 use borrow.Author.Needs.{needs}
 use Rattle.component.proofs.Pairs.{Filled, none-filled, one-filled, all-filled}
 use Rattle.component.proofs.numbers.fill.Statement.{statement}
 use Rattle.component.proofs.numbers.fill.Tie as tie
-use Rattle.component.proofs.numbers.fill.Reads as reads
-use Rattle.component.proofs.numbers.fill.Lts as lts
-use Rattle.component.proofs.numbers.pair_at.Reads as pair-at-reads
 
 abbrev Inv-loop : tie.InvT-loop
 Inv-loop body numbers₀ count i₀ numbers i = Filled body numbers₀ numbers i
@@ -14,43 +10,33 @@ Inv-loop body numbers₀ count i₀ numbers i = Filled body numbers₀ numbers i
 abbrev μ-loop : tie.MeasureT-loop
 μ-loop body numbers₀ count i₀ numbers i = count - i
 
--- src/numbers.rt:42:5
 loop-holds : tie.Need-loop-holds Inv-loop μ-loop
 loop-holds c = none-filled _ _
 
--- src/numbers.rt:43:36
 mul-pair-at : tie.Need-mul-pair-at Inv-loop μ-loop
 mul-pair-at c = search needs
 
--- src/numbers.rt:43:22
 pair-at-requires : tie.Need-pair-at-requires Inv-loop μ-loop
 pair-at-requires c κs = search needs
 
--- src/numbers.rt:43:9
 mul-numbers : tie.Need-mul-numbers Inv-loop μ-loop
 mul-numbers c = search needs
 
--- src/numbers.rt:43:9
 slice-write-numbers : tie.Need-slice-write-numbers Inv-loop μ-loop
 slice-write-numbers c = search needs
 
--- src/numbers.rt:44:9
 add-i : tie.Need-add-i Inv-loop μ-loop
 add-i c = search needs
 
--- src/numbers.rt:42:5
 loop-less : tie.Need-loop-less Inv-loop μ-loop
 loop-less c = search needs
 
--- src/numbers.rt:42:5
 loop-again : tie.Need-loop-again Inv-loop μ-loop
 loop-again c = one-filled _ _ _ _ _ (c .before .before .loop .inv) (c .before .loop-test .taken) (c .before .before .before .before .before .pre) (c .pair-at .ensures)
 
--- src/numbers.rt:36:1
 same-length : tie.Need-same-length Inv-loop μ-loop
 same-length c = search needs
 
--- src/numbers.rt:36:1
 returns : tie.Need-returns Inv-loop μ-loop
 returns c = all-filled _ _ _ _ (c .before .loop .inv) (c .loop-test .left)
 

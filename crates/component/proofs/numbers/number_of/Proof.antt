@@ -6,37 +6,27 @@ use Rattle.component.proofs.Pairs.{one-byte, two-bytes}
 use borrow.Author.Needs.{needs}
 use Rattle.component.proofs.numbers.number_of.Statement.{statement}
 use Rattle.component.proofs.numbers.number_of.Tie as tie
-use Rattle.component.proofs.numbers.number_of.Reads as reads
-use Rattle.component.proofs.numbers.number_of.Lts as lts
-use Rattle.component.proofs.numbers.pair.Reads as pair-reads
 
--- src/numbers.rt:21:17
 shared-slice-read-pair : tie.Need-shared-slice-read-pair
 shared-slice-read-pair c = search needs
 
--- src/numbers.rt:21:9
 pair-requires : tie.Need-pair-requires
 pair-requires c κs = search needs
 
--- src/numbers.rt:23:14
 shared-slice-read-pair-2 : tie.Need-shared-slice-read-pair-2
 shared-slice-read-pair-2 c = search needs
 
--- src/numbers.rt:23:24
 shared-slice-read-pair-3 : tie.Need-shared-slice-read-pair-3
 shared-slice-read-pair-3 c = search needs
 
--- src/numbers.rt:23:9
 pair-requires-2 : tie.Need-pair-requires-2
 pair-requires-2 c κs = search needs
 
--- src/numbers.rt:16:1
 returns : tie.Need-returns
 returns c =
     let e : length (now (c .before .before .before .before .args .bytes)) ≡ 1 = omega arith in
     rw (one-byte _ e) (c .pair .ensures)
 
--- src/numbers.rt:16:1
 returns-2 : tie.Need-returns-2
 returns-2 c =
     let e : length (now (c .before .before .before .before .before .args .bytes)) ≡ 2 = omega arith in

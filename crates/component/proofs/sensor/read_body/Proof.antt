@@ -1,58 +1,43 @@
 use Rattle.refusal.specs.Outcome.{accepted}
-use mathlib.Core.Path.{_≡_, refl, ap, _∙_}
+use mathlib.Core.Path.{refl, ap, _∙_}
 use Prim.Native.Nat.{_<_}
 use native.Mathlib.Omega.{arith}
 use Rattle.component.proofs.Sensors.{index-below, body-refused, body-read}
 use borrow.Author.Needs.{needs}
 use Rattle.component.proofs.sensor.read_body.Statement.{statement}
 use Rattle.component.proofs.sensor.read_body.Tie as tie
-use Rattle.component.proofs.sensor.read_body.Reads as reads
-use Rattle.component.proofs.sensor.read_body.Lts as lts
-use Rattle.component.proofs.numbers.fill.Reads as fill-reads
-use Rattle.component.proofs.sensor.sensor_fault.Reads as sensor-fault-reads
-use Rattle.component.proofs.sensor.sensor_of.Reads as sensor-of-reads
 
 -- the index is one of the nine
 at-fault : (c : tie.After-known-told) → c .before .i .given .0 .0 < 9
 at-fault c = index-below _ _ (rw (c .before .i .given .1) at (c .before .before .before .sensor-fault .ensures))
 
--- src/sensor.rt:102:25
 slice-aggregate-fill : tie.Need-slice-aggregate-fill
 slice-aggregate-fill c = search needs
 
--- src/sensor.rt:102:5
 fill-requires : tie.Need-fill-requires
 fill-requires c κs = search needs
 
--- src/sensor.rt:103:11
 sensor-fault-requires : tie.Need-sensor-fault-requires
 sensor-fault-requires c κs = search needs
 
--- src/sensor.rt:104:33
 enum-known-i : tie.Need-enum-known-i
 enum-known-i c = search needs
 
--- src/sensor.rt:104:87
 mul-t11 : tie.Need-mul-t11
 mul-t11 c = omega (arith, at-fault c)
 
--- src/sensor.rt:104:79
 add-t12 : tie.Need-add-t12
 add-t12 c = omega (arith, at-fault c)
 
--- src/sensor.rt:105:60
 enum-told : tie.Need-enum-told
 enum-told c = search needs
 
--- src/sensor.rt:105:50
 sensor-of-requires : tie.Need-sensor-of-requires
 sensor-of-requires c κs = search needs
 
--- src/sensor.rt:97:1
 returns : tie.Need-returns
 returns c = body-refused _ _ _ _ (c .before .before .before .before .before .before .before .before .before .pre .0) refl (c .before .before .before .before .before .before .fill .ensures) _ (rw (c .before .i .given .1) at (c .before .before .before .sensor-fault .ensures))
 
--- src/sensor.rt:97:1
 returns-2 : tie.Need-returns-2
 returns-2 c = ap accepted (c .sensor-of .ensures) ∙ body-read _ _ _ _ (c .before .before .before .before .before .before .before .before .before .before .pre .0) refl (c .before .before .before .before .before .before .before .fill .ensures) (rw (c .before .before .enum-told .given .1) at (c .before .before .before .before .sensor-fault .ensures))
 

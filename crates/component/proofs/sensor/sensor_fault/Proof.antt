@@ -8,10 +8,6 @@ use Rattle.refusal.proofs.First.{first-none, first-more, first-stops}
 use Rattle.component.specs.Sensor.{sensorNumber, sensorNumbers}
 use Rattle.component.proofs.sensor.sensor_fault.Statement.{statement}
 use Rattle.component.proofs.sensor.sensor_fault.Tie as tie
-use Rattle.component.proofs.sensor.sensor_fault.Reads as reads
-use Rattle.component.proofs.sensor.sensor_fault.Lts as lts
-use Rattle.component.proofs.sensor.range_at.Reads as range-at-reads
-use Rattle.grid.proofs.within.Reads as within-reads
 
 abbrev Inv-loop : tie.InvT-loop
 Inv-loop numbers i₀ i = (i ≤ 9) × (sensorNumbers numbers ≡ firstRefusal (sensorNumber numbers) i (9 - i))
@@ -19,44 +15,34 @@ Inv-loop numbers i₀ i = (i ≤ 9) × (sensorNumbers numbers ≡ firstRefusal (
 abbrev μ-loop : tie.MeasureT-loop
 μ-loop numbers i₀ i = 9 - i
 
--- src/sensor.rt:66:5
 loop-holds : tie.Need-loop-holds Inv-loop μ-loop
 unfolding sensorNumbers
 loop-holds c = (zero-le, refl)
 
--- src/sensor.rt:67:26
 range-at-requires : tie.Need-range-at-requires Inv-loop μ-loop
 range-at-requires c κs = search needs
 
--- src/sensor.rt:67:39
 mul-within : tie.Need-mul-within Inv-loop μ-loop
 mul-within c = search needs
 
--- src/sensor.rt:67:39
 element-copy-out-within : tie.Need-element-copy-out-within Inv-loop μ-loop
 element-copy-out-within c = search needs
 
--- src/sensor.rt:67:13
 within-requires : tie.Need-within-requires Inv-loop μ-loop
 within-requires c κs = search needs
 
--- src/sensor.rt:68:13
 returns : tie.Need-returns Inv-loop μ-loop
 returns c = sym (c .before .before .before .before .before .loop .inv .1 ∙ first-stops _ _ _ _ (c .before .before .before .before .loop-test .taken) (number-outside _ _ _ _ (c .before .before .before .range-at .ensures) (c .before .within .ensures) (not-true _ (c .if1 .taken))))
 
--- src/sensor.rt:70:9
 add-i : tie.Need-add-i Inv-loop μ-loop
 add-i c = search needs
 
--- src/sensor.rt:66:5
 loop-less : tie.Need-loop-less Inv-loop μ-loop
 loop-less c = search needs
 
--- src/sensor.rt:66:5
 loop-again : tie.Need-loop-again Inv-loop μ-loop
 loop-again c = (search needs, c .before .before .before .before .before .loop .inv .1 ∙ first-more _ _ _ (c .before .before .before .before .loop-test .taken) (number-inside _ _ _ _ (c .before .before .before .range-at .ensures) (c .before .within .ensures) (not-false _ (c .if1 .left))))
 
--- src/sensor.rt:62:1
 returns-2 : tie.Need-returns-2 Inv-loop μ-loop
 returns-2 c = sym (c .before .loop .inv .1 ∙ first-none _ _ _ (c .loop-test .left))
 

@@ -8,10 +8,6 @@ use Rattle.component.proofs.Heads.{Inside, inside, numbers-length, head
 use borrow.Author.Needs.{needs}
 use Rattle.component.proofs.cursor.Cursor.axis.Statement.{statement}
 use Rattle.component.proofs.cursor.Cursor.axis.Tie as tie
-use Rattle.component.proofs.cursor.Cursor.axis.Reads as reads
-use Rattle.component.proofs.cursor.Cursor.axis.Lts as lts
-use Rattle.component.proofs.cursor.Cursor.field.Reads as field-reads
-use Rattle.component.proofs.cursor.read_numbers.Reads as read-numbers-reads
 
 -- at the body: the head was read, and the body stands in the bytes
 head-is : (c : tie.After-known-told2)
@@ -22,59 +18,45 @@ body-inside : (c : tie.After-known-told2)
     → Inside (now (c .before .before .before .before .before .before .args .«data»)) (numbers 2 (length (now (c .before .before .before .before .before .before .args .numbers)))) (c .before .start .given .0 .1 .0) (c .before .start .given .0 .1 .1 .0 .at)
 body-inside c = inside _ _ _ _ _ (head-is c)
 
--- src/cursor.rt:159:15
 field-requires : tie.Need-field-requires
 field-requires c κs = search needs
 
--- src/cursor.rt:160:32
 enum-known-x : tie.Need-enum-known-x
 enum-known-x c = search needs
 
--- src/cursor.rt:163:17
 enum-known-start : tie.Need-enum-known-start
 enum-known-start c = search needs
 
--- src/cursor.rt:167:28
 sub-body : tie.Need-sub-body
 sub-body c = body-inside c .forward
 
--- src/cursor.rt:167:28
 part-body-start : tie.Need-part-body-start
 part-body-start c = body-inside c .forward
 
--- src/cursor.rt:167:28
 part-body-end : tie.Need-part-body-end
 part-body-end c = body-inside c .ends
 
--- src/cursor.rt:168:23
 read-numbers-requires : tie.Need-read-numbers-requires
 read-numbers-requires c κs = let l = numbers-length _ _ _ _ _ (body-inside (c .before .before)) in (l .0, omega (arith, l .2))
 
--- src/cursor.rt:169:42
 enum-known-x-2 : tie.Need-enum-known-x-2
 enum-known-x-2 c = search needs
 
--- src/cursor.rt:171:32
 enum-told : tie.Need-enum-told
 enum-told c = search needs
 
--- src/cursor.rt:156:5
 returns : tie.Need-returns
 returns c = (head-refused _ _ _ _ _ _ (rw (c .before .x .given .1) at (c .before .before .before .field .ensures)), tt)
 
--- src/cursor.rt:156:5
 same-length : tie.Need-same-length
 same-length c = search needs
 
--- src/cursor.rt:156:5
 returns-2 : tie.Need-returns-2
 returns-2 c = (body-refused _ _ _ _ _ _ (head-is (c .before .before .before .before .before .before .before .before)) _ (rw (c .before .x2 .given .1) at (c .before .before .before .before .before .read-numbers .ensures)), tt)
 
--- src/cursor.rt:156:5
 same-length-2 : tie.Need-same-length-2
 same-length-2 c = search needs
 
--- src/cursor.rt:156:5
 returns-3 : tie.Need-returns-3
 returns-3 c = (body-accepted _ _ _ _ _ _ (head-is (c .before .before .before .before .before .before .before)) _ (rw (c .enum-told .given .1) at (c .before .before .before .before .read-numbers .ensures)), let l = numbers-length _ _ _ _ _ (body-inside (c .before .before .before .before .before .before .before)) in (l .1, omega (arith, l .0)))
 

@@ -4,80 +4,58 @@ use Rattle.component.proofs.Heads.{no-bytes, incomplete, other-tag, not
 use borrow.Author.Needs.{needs}
 use Rattle.component.proofs.cursor.Cursor.field.Statement.{statement}
 use Rattle.component.proofs.cursor.Cursor.field.Tie as tie
-use Rattle.component.proofs.cursor.Cursor.field.Reads as reads
-use Rattle.component.proofs.cursor.Cursor.field.Lts as lts
-use Rattle.component.proofs.cursor.allows.Reads as allows-reads
-use Rattle.component.proofs.numbers.number_of.Reads as number-of-reads
 
--- src/cursor.rt:56:13
 returns : tie.Need-returns
 returns c = no-bytes _ _ _ _ (c .if1 .taken)
 
--- src/cursor.rt:58:12
 sub-if2 : tie.Need-sub-if2
 sub-if2 c = search needs
 
--- src/cursor.rt:59:13
 returns-2 : tie.Need-returns-2
 returns-2 c = incomplete _ _ _ _ (c .before .if1 .left) (c .if2 .taken)
 
--- src/cursor.rt:61:12
 shared-slice-read-if3 : tie.Need-shared-slice-read-if3
 shared-slice-read-if3 c = search needs
 
--- src/cursor.rt:62:13
 returns-3 : tie.Need-returns-3
 returns-3 c = other-tag _ _ _ _ (c .before .before .before .if1 .left) (c .before .before .if2 .left) (c .if3 .taken)
 
--- src/cursor.rt:64:25
 add-length-at : tie.Need-add-length-at
 add-length-at c = search needs
 
--- src/cursor.rt:65:21
 add-start : tie.Need-add-start
 add-start c = search needs
 
--- src/cursor.rt:66:41
 sub-number-of : tie.Need-sub-number-of
 sub-number-of c = search needs
 
--- src/cursor.rt:66:41
 part-number-of-start : tie.Need-part-number-of-start
 part-number-of-start c = search needs
 
--- src/cursor.rt:66:41
 part-number-of-end : tie.Need-part-number-of-end
 part-number-of-end c = search needs
 
--- src/cursor.rt:66:22
 number-of-requires : tie.Need-number-of-requires
 number-of-requires c κs = search needs
 
--- src/cursor.rt:66:22
 cast-length : tie.Need-cast-length
 cast-length c = search needs
 
--- src/cursor.rt:67:13
 allows-requires : tie.Need-allows-requires
 allows-requires c κs = search needs
 
--- src/cursor.rt:68:13
 returns-4 : tie.Need-returns-4
 returns-4 c = not-allowed _ _ _ _ (c .before .before .before .before .before .before .before .if1 .left) (c .before .before .before .before .before .before .if2 .left) _ (c .before .before .before .before .if3 .left) (c .before .before .number-of .ensures) (sym (c .before .allows .ensures) ∙ not-true _ (c .if4 .taken))
 
--- src/cursor.rt:70:12
 sub-if5 : tie.Need-sub-if5
 sub-if5 c = search needs
 
--- src/cursor.rt:71:13
 returns-5 : tie.Need-returns-5
 returns-5 c = past-end _ _ _ _ (c .before .before .before .before .before .before .before .before .if1 .left) (c .before .before .before .before .before .before .before .if2 .left) _ (c .before .before .before .before .before .if3 .left) (c .before .before .before .number-of .ensures) (sym (c .before .before .allows .ensures) ∙ not-false _ (c .before .if4 .left)) (c .if5 .taken)
 
--- src/cursor.rt:76:32
 add-t12 : tie.Need-add-t12
 add-t12 c = search needs
 
--- src/cursor.rt:51:5
 returns-6 : tie.Need-returns-6
 returns-6 c = whole _ _ _ _ (c .before .before .before .before .before .before .before .before .if1 .left) (c .before .before .before .before .before .before .before .if2 .left) _ (c .before .before .before .before .before .if3 .left) (c .before .before .before .number-of .ensures) (sym (c .before .before .allows .ensures) ∙ not-false _ (c .before .if4 .left)) (c .if5 .left)
 

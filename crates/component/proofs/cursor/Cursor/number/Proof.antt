@@ -1,4 +1,4 @@
-use mathlib.Core.Path.{_≡_, sym, _∙_}
+use mathlib.Core.Path.{_≡_}
 use Rattle.refusal.specs.Outcome.{accepted}
 use native.Mathlib.Omega.{arith}
 use denote.Ref.{now}
@@ -8,11 +8,6 @@ use Rattle.component.proofs.Bodies.{number-accepted, number-refused}
 use borrow.Author.Needs.{needs}
 use Rattle.component.proofs.cursor.Cursor.number.Statement.{statement}
 use Rattle.component.proofs.cursor.Cursor.number.Tie as tie
-use Rattle.component.proofs.cursor.Cursor.number.Reads as reads
-use Rattle.component.proofs.cursor.Cursor.number.Lts as lts
-use Rattle.component.proofs.cursor.Cursor.field.Reads as field-reads
-use Rattle.component.proofs.numbers.number_of.Reads as number-of-reads
-use Rattle.grid.proofs.within.Reads as within-reads
 
 -- at the body: the head was read, and the body stands in the bytes
 head-is : (c : tie.After-known-told2)
@@ -23,47 +18,36 @@ body-inside : (c : tie.After-known-told2)
     → Inside (now (c .before .before .before .before .before .args .«data»)) (exactly (c .before .before .before .before .before .args .bytes)) (c .before .start .given .0 .1 .0) (c .before .start .given .0 .1 .1 .0 .at)
 body-inside c = inside _ _ _ _ _ (head-is c)
 
--- src/cursor.rt:137:15
 field-requires : tie.Need-field-requires
 field-requires c κs = search needs
 
--- src/cursor.rt:138:32
 enum-known-x : tie.Need-enum-known-x
 enum-known-x c = search needs
 
--- src/cursor.rt:141:17
 enum-known-start : tie.Need-enum-known-start
 enum-known-start c = search needs
 
--- src/cursor.rt:145:48
 sub-number-of : tie.Need-sub-number-of
 sub-number-of c = body-inside c .forward
 
--- src/cursor.rt:145:48
 part-number-of-start : tie.Need-part-number-of-start
 part-number-of-start c = body-inside c .forward
 
--- src/cursor.rt:145:48
 part-number-of-end : tie.Need-part-number-of-end
 part-number-of-end c = body-inside c .ends
 
--- src/cursor.rt:145:21
 number-of-requires : tie.Need-number-of-requires
 number-of-requires c κs = omega (arith, exactly-length _ _ _ _ (body-inside (c .before)) .0)
 
--- src/cursor.rt:146:20
 within-requires : tie.Need-within-requires
 within-requires c κs = search needs
 
--- src/cursor.rt:133:5
 returns : tie.Need-returns
 returns c = head-refused _ _ _ _ _ _ (rw (c .before .x .given .1) at (c .before .before .before .field .ensures))
 
--- src/cursor.rt:133:5
 returns-2 : tie.Need-returns-2
 returns-2 c = body-accepted _ _ _ _ _ _ (head-is (c .before .before .before .before)) _ (number-accepted _ _ _ _ _ (c .before .before .number-of .ensures) (c .before .within .ensures) (c .if1 .taken))
 
--- src/cursor.rt:133:5
 returns-3 : tie.Need-returns-3
 returns-3 c = body-refused _ _ _ _ _ _ (head-is (c .before .before .before .before)) _ (number-refused _ _ _ _ _ (c .before .before .number-of .ensures) (c .before .within .ensures) (c .if1 .left))
 

@@ -7,10 +7,6 @@ use Rattle.component.proofs.Heads.{Inside, inside, exactly-length, head
 use borrow.Author.Needs.{needs}
 use Rattle.component.proofs.cursor.Cursor.sensor.Statement.{statement}
 use Rattle.component.proofs.cursor.Cursor.sensor.Tie as tie
-use Rattle.component.proofs.cursor.Cursor.sensor.Reads as reads
-use Rattle.component.proofs.cursor.Cursor.sensor.Lts as lts
-use Rattle.component.proofs.cursor.Cursor.field.Reads as field-reads
-use Rattle.component.proofs.sensor.read_body.Reads as read-body-reads
 
 -- at the body: the head was read, and the body stands in the bytes
 head-is : (c : tie.After-known-told2)
@@ -21,51 +17,39 @@ body-inside : (c : tie.After-known-told2)
     → Inside (now (c .before .before .before .before .before .args .«data»)) (exactly 18) (c .before .start .given .0 .1 .0) (c .before .start .given .0 .1 .1 .0 .at)
 body-inside c = inside _ _ _ _ _ (head-is c)
 
--- src/cursor.rt:184:15
 field-requires : tie.Need-field-requires
 field-requires c κs = search needs
 
--- src/cursor.rt:185:32
 enum-known-x : tie.Need-enum-known-x
 enum-known-x c = search needs
 
--- src/cursor.rt:188:17
 enum-known-start : tie.Need-enum-known-start
 enum-known-start c = search needs
 
--- src/cursor.rt:192:41
 sub-read-body : tie.Need-sub-read-body
 sub-read-body c = body-inside c .forward
 
--- src/cursor.rt:192:41
 part-read-body-start : tie.Need-part-read-body-start
 part-read-body-start c = body-inside c .forward
 
--- src/cursor.rt:192:41
 part-read-body-end : tie.Need-part-read-body-end
 part-read-body-end c = body-inside c .ends
 
--- src/cursor.rt:192:23
 read-body-requires : tie.Need-read-body-requires
 read-body-requires c κs = let l = exactly-length _ _ _ _ (body-inside (c .before)) in (l .0, omega (arith, l .1))
 
--- src/cursor.rt:193:41
 enum-known-x-2 : tie.Need-enum-known-x-2
 enum-known-x-2 c = search needs
 
--- src/cursor.rt:194:38
 enum-known-sensor : tie.Need-enum-known-sensor
 enum-known-sensor c = search needs
 
--- src/cursor.rt:181:5
 returns : tie.Need-returns
 returns c = head-refused _ _ _ _ _ _ (rw (c .before .x .given .1) at (c .before .before .before .field .ensures))
 
--- src/cursor.rt:181:5
 returns-2 : tie.Need-returns-2
 returns-2 c = body-refused _ _ _ _ _ _ (head-is (c .before .before .before .before .before)) _ (rw (c .before .x2 .given .1) at (c .before .before .before .read-body .ensures))
 
--- src/cursor.rt:181:5
 returns-3 : tie.Need-returns-3
 returns-3 c = body-accepted _ _ _ _ _ _ (head-is (c .before .before .before .before .before)) _ (rw (c .before .sensor .given .1) at (c .before .before .before .read-body .ensures))
 
