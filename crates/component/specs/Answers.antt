@@ -10,8 +10,8 @@ use Rattle.refusal.specs.Table.{told}
 use Rattle.component.specs.declared.sensor.Sensor.{Sensor}
 use Rattle.component.specs.declared.sensor.SensorFault.{SensorFault}
 use Rattle.component.specs.declared.sensor.SensorFault.the-variants.{Nothing, OutOfRange}
-use Rattle.component.specs.declared.sensor.SensorRead.{SensorRead}
-use Rattle.component.specs.declared.sensor.SensorRead.the-variants.{Read as SensorIs, Refused as SensorRefused}
+use Rattle.component.specs.declared.cursor.SensorRead.{SensorRead}
+use Rattle.component.specs.declared.cursor.SensorRead.the-variants.{Read as SensorIs, Refused as SensorRefused}
 use Rattle.component.specs.Field.{Head, Field, exactly, numbers}
 use Rattle.component.specs.declared.cursor.Allowed.{Allowed}
 use Rattle.component.specs.declared.cursor.Allowed.the-variants.{Exactly, Numbers}

@@ -1,18 +1,60 @@
 // "The reading place only moves forward, one field at a time": a cursor by value whose methods return the advanced cursor.
-use crate::numbers;
 use crate::sensor;
 use crate::sensor::Sensor;
-use crate::sensor::SensorRead;
+use crate::sensor::SensorFault;
 use grid::AxisFault;
 use grid::Range;
 use refusal::Refusal;
 ghost use mathlib.Core.Path.{_≡_};
+ghost use mathlib.Core.List.{_++_};
 ghost use Prim.Native.Nat.{_+_, _*_, _/_, _≤_, _<_, _^_};
-ghost use lib.ListN.{length, take};
+ghost use lib.ListN.{length, getD, take, drop};
+ghost use Rattle.component.specs.Bytes.{numberOf, pairs};
 ghost use Rattle.component.specs.Field.{head, field, exactly, numbers as numbersFrom, number, axis};
 ghost use Rattle.component.specs.Sensor.{sensor};
-ghost use Rattle.component.specs.Answers.{allowedOf, fieldReadOf, numberReadOf, numbersReadOf, axisReadOf, CountWithin, sensorFieldReadOf};
+ghost use Rattle.component.specs.Answers.{allowedOf, fieldReadOf, numberReadOf, numbersReadOf, axisReadOf, CountWithin, sensorReadOf, sensorFieldReadOf};
 
+// The number of two bytes.
+fn pair(high: u8, low: u8) -> u16
+    ensures { λ r. ⌜ r ≡ high * 256 + low ⌝ }
+{
+    (high as u16) * 256 + (low as u16)
+}
+
+// The number of one byte or two.
+fn number_of(bytes: &[u8]) -> u16
+    requires { ⌜ (1 ≤ length (now bytes)) × (length (now bytes) ≤ 2) ⌝ }
+    ensures { λ r. ⌜ r ≡ numberOf (now (bytes .entry)) ⌝ }
+{
+    if bytes.len() == 1 {
+        pair(0, bytes[0])
+    } else {
+        pair(bytes[0], bytes[1])
+    }
+}
+
+// The number of the two bytes at a place.
+fn pair_at(bytes: &[u8], at: usize) -> u16
+    requires { ⌜ at + 2 ≤ length (now bytes) ⌝ }
+    ensures { λ r. ⌜ r ≡ getD (now (bytes .entry)) at 0 * 256 + getD (now (bytes .entry)) (at + 1) 0 ⌝ }
+{
+    pair(bytes[at], bytes[at + 1])
+}
+
+// Writes the numbers that a body says, two bytes each, to the first places of what is lent.
+fn fill(body: &[u8], numbers: &mut [u16])
+    requires { ⌜ length (now body) ≤ length (now numbers) * 2 ⌝ }
+    ensures { λ r. ⌜ now (numbers .exit) ≡ pairs (now (body .entry)) ++ drop (length (now (body .entry)) / 2) (now (numbers .entry)) ⌝ }
+{
+    let count = body.len() / 2;
+    let mut i: usize = 0;
+    while i < count {
+        numbers[i] = pair_at(body, i * 2);
+        i += 1;
+    }
+}
+
+// The reading place.
 pub struct Cursor {
     pub at: usize,
 }
@@ -63,7 +105,7 @@ impl Cursor {
         }
         let length_at = at + 1;
         let start = at + 3;
-        let length = numbers::number_of(&data[length_at..start]) as usize;
+        let length = number_of(&data[length_at..start]) as usize;
         if !allows(allowed, length) {
             return FieldRead::Refused(Refusal::WrongLength(at));
         }
@@ -101,12 +143,30 @@ fn read_numbers(body: &[u8], place: usize, range: Range, numbers: &mut [u16]) ->
     requires { ⌜ (length (now body) ≤ length (now numbers) * 2) × (place + length (now body) < 2 ^ 64) ⌝ }
     ensures { λ r. ⌜ numbersReadOf r (take (length (now (body .entry)) / 2) (now (numbers .exit))) ≡ axis range (now (body .entry)) place ⌝ }
 {
-    numbers::fill(body, numbers);
+    fill(body, numbers);
     let count = body.len() / 2;
     match grid::axis_fault(&numbers[0..count], range) {
         AxisFault::OutOfRange(i) => NumbersRead::Refused(Refusal::OutOfRange(place + 2 * i)),
         AxisFault::NotRising(i) => NumbersRead::Refused(Refusal::NotRising(place + 2 * i)),
         AxisFault::Nothing => NumbersRead::Fine,
+    }
+}
+
+pub enum SensorRead {
+    Read(Sensor),
+    Refused(Refusal),
+}
+
+// The sensor that a body of 18 bytes says; place is where the body starts in the data.
+fn read_sensor(body: &[u8], place: usize) -> SensorRead
+    requires { ⌜ (length (now body) ≡ 18) × (place + 18 < 2 ^ 64) ⌝ }
+    ensures { λ r. ⌜ sensorReadOf r ≡ sensor (now (body .entry)) place ⌝ }
+{
+    let mut numbers = [0u16; 9];
+    fill(body, &mut numbers);
+    match sensor::sensor_fault(&numbers) {
+        SensorFault::OutOfRange(i) => SensorRead::Refused(Refusal::OutOfRange(place + 2 * i)),
+        SensorFault::Nothing => SensorRead::Read(sensor::sensor_of(&numbers)),
     }
 }
 
@@ -136,7 +196,7 @@ pub enum SensorFieldRead {
 
 impl Cursor {
     // The field of one number of one byte or two.
-    pub fn number(self, data: &[u8], tag: u8, bytes: usize, range: Range) -> NumberRead
+    fn number(self, data: &[u8], tag: u8, bytes: usize, range: Range) -> NumberRead
         requires { ⌜ (1 ≤ bytes) × (bytes ≤ 2) ⌝ }
         ensures { λ r. ⌜ numberReadOf r ≡ field (now («data» .entry)) (self .at) tag (exactly bytes) (number range) ⌝ }
     {
@@ -148,7 +208,7 @@ impl Cursor {
                 next,
             } => {
                 let end = next.at;
-                let value = numbers::number_of(&data[start..end]);
+                let value = number_of(&data[start..end]);
                 if grid::within(range, value) {
                     NumberRead::Read(NumberField { value, start, next })
                 } else {
@@ -156,6 +216,20 @@ impl Cursor {
                 }
             }
         }
+    }
+
+    // The field of one number of one byte.
+    pub fn byte_number(self, data: &[u8], tag: u8, range: Range) -> NumberRead
+        ensures { λ r. ⌜ numberReadOf r ≡ field (now («data» .entry)) (self .at) tag (exactly 1) (number range) ⌝ }
+    {
+        self.number(data, tag, 1, range)
+    }
+
+    // The field of one number of two bytes.
+    pub fn pair_number(self, data: &[u8], tag: u8, range: Range) -> NumberRead
+        ensures { λ r. ⌜ numberReadOf r ≡ field (now («data» .entry)) (self .at) tag (exactly 2) (number range) ⌝ }
+    {
+        self.number(data, tag, 2, range)
     }
 
     // The field of axis numbers, from two to as many as there are places lent; they are written to the first of these.
@@ -195,7 +269,7 @@ impl Cursor {
                 next,
             } => {
                 let end = next.at;
-                match sensor::read_body(&data[start..end], start) {
+                match read_sensor(&data[start..end], start) {
                     SensorRead::Refused(x) => SensorFieldRead::Refused(x),
                     SensorRead::Read(sensor) => SensorFieldRead::Read(SensorField {
                         sensor,

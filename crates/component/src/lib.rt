@@ -1,6 +1,5 @@
 // Reads component data: a run of fields, each a tag, a length in two bytes and a body.
 mod cursor;
-mod numbers;
 pub mod sensor;
 
 use cursor::Allowed;
@@ -85,15 +84,15 @@ pub enum AxleRead {
 fn read_axle(data: &[u8], start: Cursor) -> AxleRead
     ensures { λ r. ⌜ axleReadOf r ≡ axleFields (now («data» .entry)) (start .at) ⌝ }
 {
-    let kind = match start.number(data, 1, 1, KINDS) {
+    let kind = match start.byte_number(data, 1, KINDS) {
         NumberRead::Refused(x) => return AxleRead::Refused(x),
         NumberRead::Read(field) => field,
     };
-    let line = match kind.next.number(data, 2, 1, LINES) {
+    let line = match kind.next.byte_number(data, 2, LINES) {
         NumberRead::Refused(x) => return AxleRead::Refused(x),
         NumberRead::Read(field) => field,
     };
-    let ratio = match line.next.number(data, 3, 2, RATIOS) {
+    let ratio = match line.next.pair_number(data, 3, RATIOS) {
         NumberRead::Refused(x) => return AxleRead::Refused(x),
         NumberRead::Read(field) => field,
     };

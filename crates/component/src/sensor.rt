@@ -1,13 +1,11 @@
 // The torque sensors of tags 6 and 7.
-use crate::numbers;
 use grid::Range;
-use refusal::Refusal;
 ghost use mathlib.Core.Path.{_≡_};
-ghost use Prim.Native.Nat.{_+_, _<_, _^_};
-ghost use lib.ListN.{length, getD};
+ghost use Prim.Native.Nat.{_<_};
+ghost use lib.ListN.{getD};
 ghost use Rattle.grid.specs.Axis.{within, _to_};
-ghost use Rattle.component.specs.Sensor.{sensorRanges, sensorNumbers, sensorOf, sensor};
-ghost use Rattle.component.specs.Answers.{sensorFaultOf, sensorReadOf};
+ghost use Rattle.component.specs.Sensor.{sensorRanges, sensorNumbers, sensorOf};
+ghost use Rattle.component.specs.Answers.{sensorFaultOf};
 
 // The nine numbers of a sensor, in the order of the data.
 pub struct Sensor {
@@ -86,7 +84,7 @@ pub enum SensorFault {
 }
 
 // Looks for it among a sensor's numbers, left to right.
-fn sensor_fault(numbers: &[u16; 9]) -> SensorFault
+pub fn sensor_fault(numbers: &[u16; 9]) -> SensorFault
     ensures { λ r. ⌜ sensorFaultOf r ≡ sensorNumbers (now (numbers .entry)) ⌝ }
 {
     let mut i: usize = 0;
@@ -99,7 +97,7 @@ fn sensor_fault(numbers: &[u16; 9]) -> SensorFault
     SensorFault::Nothing
 }
 
-fn sensor_of(numbers: &[u16; 9]) -> Sensor
+pub fn sensor_of(numbers: &[u16; 9]) -> Sensor
     ensures { λ r. ⌜ r ≡ sensorOf (now (numbers .entry)) ⌝ }
 {
     Sensor {
@@ -112,23 +110,5 @@ fn sensor_of(numbers: &[u16; 9]) -> Sensor
         share: numbers[6],
         difference: numbers[7],
         span: numbers[8],
-    }
-}
-
-pub enum SensorRead {
-    Read(Sensor),
-    Refused(Refusal),
-}
-
-// The sensor that a body of 18 bytes says; place is where the body starts in the data.
-pub fn read_body(body: &[u8], place: usize) -> SensorRead
-    requires { ⌜ (length (now body) ≡ 18) × (place + 18 < 2 ^ 64) ⌝ }
-    ensures { λ r. ⌜ sensorReadOf r ≡ sensor (now (body .entry)) place ⌝ }
-{
-    let mut numbers = [0u16; 9];
-    numbers::fill(body, &mut numbers);
-    match sensor_fault(&numbers) {
-        SensorFault::OutOfRange(i) => SensorRead::Refused(Refusal::OutOfRange(place + 2 * i)),
-        SensorFault::Nothing => SensorRead::Read(sensor_of(&numbers)),
     }
 }

@@ -3,62 +3,62 @@ use borrow.Author.Needs.{needs}
 use Rattle.component.proofs.read_axle.Statement.{statement}
 use Rattle.component.proofs.read_axle.Tie as tie
 
-number-requires : tie.Need-number-requires
-number-requires c κs = search needs
+byte-number-requires : tie.Need-byte-number-requires
+byte-number-requires c κs = search needs
 
 enum-known-x : tie.Need-enum-known-x
 enum-known-x c = search needs
 
 returns : tie.Need-returns
 unfolding axleFields
-returns c = rw (← (rw (c .before .x .given .1) at (c .before .before .before .number .ensures)))
+returns c = rw (← (rw (c .before .x .given .1) at (c .before .before .before .byte-number .ensures)))
 
 enum-known-field : tie.Need-enum-known-field
 enum-known-field c = search needs
 
-number-requires-2 : tie.Need-number-requires-2
-number-requires-2 c κs = search needs
+byte-number-requires-2 : tie.Need-byte-number-requires-2
+byte-number-requires-2 c κs = search needs
 
 enum-known-x-2 : tie.Need-enum-known-x-2
 enum-known-x-2 c = search needs
 
 returns-2 : tie.Need-returns-2
 unfolding axleFields
-returns-2 c = rw (← (rw (c .before .before .before .before .before .field .given .1) at (c .before .before .before .before .before .before .before .number .ensures)), ← (rw (c .before .x2 .given .1) at (c .before .before .before .number2 .ensures)))
+returns-2 c = rw (← (rw (c .before .before .before .before .before .field .given .1) at (c .before .before .before .before .before .before .before .byte-number .ensures)), ← (rw (c .before .x2 .given .1) at (c .before .before .before .byte-number2 .ensures)))
 
 enum-known-field-2 : tie.Need-enum-known-field-2
 enum-known-field-2 c = search needs
 
-number-requires-3 : tie.Need-number-requires-3
-number-requires-3 c κs = search needs
+pair-number-requires : tie.Need-pair-number-requires
+pair-number-requires c κs = search needs
 
 enum-known-x-3 : tie.Need-enum-known-x-3
 enum-known-x-3 c = search needs
 
 returns-3 : tie.Need-returns-3
 unfolding axleFields
-returns-3 c = rw (← (rw (c .before .before .before .before .before .before .before .before .before .field .given .1) at (c .before .before .before .before .before .before .before .before .before .before .before .number .ensures)), ← (rw (c .before .before .before .before .before .field2 .given .1) at (c .before .before .before .before .before .before .before .number2 .ensures)), ← (rw (c .before .x3 .given .1) at (c .before .before .before .number3 .ensures)))
+returns-3 c = rw (← (rw (c .before .before .before .before .before .before .before .before .before .field .given .1) at (c .before .before .before .before .before .before .before .before .before .before .before .byte-number .ensures)), ← (rw (c .before .before .before .before .before .field2 .given .1) at (c .before .before .before .before .before .before .before .byte-number2 .ensures)), ← (rw (c .before .x3 .given .1) at (c .before .before .before .pair-number .ensures)))
 
 enum-known-field-3 : tie.Need-enum-known-field-3
 enum-known-field-3 c = search needs
 
 returns-4 : tie.Need-returns-4
 unfolding axleFields
-returns-4 c = rw (← (rw (c .before .before .before .before .before .before .before .before .before .before .field .given .1) at (c .before .before .before .before .before .before .before .before .before .before .before .before .number .ensures)), ← (rw (c .before .before .before .before .before .before .field2 .given .1) at (c .before .before .before .before .before .before .before .before .number2 .ensures)), ← (rw (c .before .before .field3 .given .1) at (c .before .before .before .before .number3 .ensures)))
+returns-4 c = rw (← (rw (c .before .before .before .before .before .before .before .before .before .before .field .given .1) at (c .before .before .before .before .before .before .before .before .before .before .before .before .byte-number .ensures)), ← (rw (c .before .before .before .before .before .before .field2 .given .1) at (c .before .before .before .before .before .before .before .before .byte-number2 .ensures)), ← (rw (c .before .before .field3 .given .1) at (c .before .before .before .before .pair-number .ensures)))
 
 pub read-axle-spec : {M : Type 1} → statement M
 read-axle-spec =
     tie.close
     (tie.spec
-    number-requires
+    byte-number-requires
     enum-known-x
     returns
     enum-known-field
-    number-requires-2
+    byte-number-requires-2
     enum-known-x-2
     returns-2
     enum-known-field-2
-    number-requires-3
+    pair-number-requires
     enum-known-x-3
     returns-3
     enum-known-field-3

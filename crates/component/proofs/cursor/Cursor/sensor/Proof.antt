@@ -26,17 +26,17 @@ enum-known-x c = search needs
 enum-known-start : tie.Need-enum-known-start
 enum-known-start c = search needs
 
-sub-read-body : tie.Need-sub-read-body
-sub-read-body c = body-inside c .forward
+sub-read-sensor : tie.Need-sub-read-sensor
+sub-read-sensor c = body-inside c .forward
 
-part-read-body-start : tie.Need-part-read-body-start
-part-read-body-start c = body-inside c .forward
+part-read-sensor-start : tie.Need-part-read-sensor-start
+part-read-sensor-start c = body-inside c .forward
 
-part-read-body-end : tie.Need-part-read-body-end
-part-read-body-end c = body-inside c .ends
+part-read-sensor-end : tie.Need-part-read-sensor-end
+part-read-sensor-end c = body-inside c .ends
 
-read-body-requires : tie.Need-read-body-requires
-read-body-requires c κs = let l = exactly-length _ _ _ _ (body-inside (c .before)) in (l .0, omega (arith, l .1))
+read-sensor-requires : tie.Need-read-sensor-requires
+read-sensor-requires c κs = let l = exactly-length _ _ _ _ (body-inside (c .before)) in (l .0, omega (arith, l .1))
 
 enum-known-x-2 : tie.Need-enum-known-x-2
 enum-known-x-2 c = search needs
@@ -48,10 +48,10 @@ returns : tie.Need-returns
 returns c = head-refused _ _ _ _ _ _ (rw (c .before .x .given .1) at (c .before .before .before .field .ensures))
 
 returns-2 : tie.Need-returns-2
-returns-2 c = body-refused _ _ _ _ _ _ (head-is (c .before .before .before .before .before)) _ (rw (c .before .x2 .given .1) at (c .before .before .before .read-body .ensures))
+returns-2 c = body-refused _ _ _ _ _ _ (head-is (c .before .before .before .before .before)) _ (rw (c .before .x2 .given .1) at (c .before .before .before .read-sensor .ensures))
 
 returns-3 : tie.Need-returns-3
-returns-3 c = body-accepted _ _ _ _ _ _ (head-is (c .before .before .before .before .before)) _ (rw (c .before .sensor .given .1) at (c .before .before .before .read-body .ensures))
+returns-3 c = body-accepted _ _ _ _ _ _ (head-is (c .before .before .before .before .before)) _ (rw (c .before .sensor .given .1) at (c .before .before .before .read-sensor .ensures))
 
 pub sensor-spec : {M : Type 1} → statement M
 sensor-spec =
@@ -60,10 +60,10 @@ sensor-spec =
     field-requires
     enum-known-x
     enum-known-start
-    sub-read-body
-    part-read-body-start
-    part-read-body-end
-    read-body-requires
+    sub-read-sensor
+    part-read-sensor-start
+    part-read-sensor-end
+    read-sensor-requires
     enum-known-x-2
     enum-known-sensor
     returns

@@ -4,8 +4,8 @@ use lib.ListN.{length}
 use denote.Ref.{now}
 use Rattle.component.proofs.Pairs.{one-byte, two-bytes}
 use borrow.Author.Needs.{needs}
-use Rattle.component.proofs.numbers.number_of.Statement.{statement}
-use Rattle.component.proofs.numbers.number_of.Tie as tie
+use Rattle.component.proofs.cursor.number_of.Statement.{statement}
+use Rattle.component.proofs.cursor.number_of.Tie as tie
 
 shared-slice-read-pair : tie.Need-shared-slice-read-pair
 shared-slice-read-pair c = search needs

@@ -1,8 +1,8 @@
 use Prim.Native.Nat.{_-_}
 use borrow.Author.Needs.{needs}
 use Rattle.component.proofs.Pairs.{Filled, none-filled, one-filled, all-filled}
-use Rattle.component.proofs.numbers.fill.Statement.{statement}
-use Rattle.component.proofs.numbers.fill.Tie as tie
+use Rattle.component.proofs.cursor.fill.Statement.{statement}
+use Rattle.component.proofs.cursor.fill.Tie as tie
 
 abbrev Inv-loop : tie.InvT-loop
 Inv-loop body numbers₀ count i₀ numbers i = Filled body numbers₀ numbers i

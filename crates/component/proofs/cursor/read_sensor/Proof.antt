@@ -4,8 +4,8 @@ use Prim.Native.Nat.{_<_}
 use native.Mathlib.Omega.{arith}
 use Rattle.component.proofs.Sensors.{index-below, body-refused, body-read}
 use borrow.Author.Needs.{needs}
-use Rattle.component.proofs.sensor.read_body.Statement.{statement}
-use Rattle.component.proofs.sensor.read_body.Tie as tie
+use Rattle.component.proofs.cursor.read_sensor.Statement.{statement}
+use Rattle.component.proofs.cursor.read_sensor.Tie as tie
 
 -- the index is one of the nine
 at-fault : (c : tie.After-known-told) → c .before .i .given .0 .0 < 9
@@ -41,8 +41,8 @@ returns c = body-refused _ _ _ _ (c .before .before .before .before .before .bef
 returns-2 : tie.Need-returns-2
 returns-2 c = ap accepted (c .sensor-of .ensures) ∙ body-read _ _ _ _ (c .before .before .before .before .before .before .before .before .before .before .pre .0) refl (c .before .before .before .before .before .before .before .fill .ensures) (rw (c .before .before .enum-told .given .1) at (c .before .before .before .before .sensor-fault .ensures))
 
-pub read-body-spec : {M : Type 1} → statement M
-read-body-spec =
+pub read-sensor-spec : {M : Type 1} → statement M
+read-sensor-spec =
     tie.close
     (tie.spec
     slice-aggregate-fill
