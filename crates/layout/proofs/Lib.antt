@@ -1,0 +1,6 @@
+pub mod FieldBytes
+pub mod OneField
+pub mod BodyChecks
+pub mod Runs
+pub mod LaidOut
+pub mod Theorems

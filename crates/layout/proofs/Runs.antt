@@ -1,0 +1,206 @@
+-- The fields in their order: what comes of fields that stand in their places, of the first that is wrong, and of bytes after the last. Assumes nothing.
+use Prim.Native.Nat.{ℕ, _+_, _*_, _≤_}
+use mathlib.Core.Path.{_≡_, refl, ap, _∙_, fun-ext}
+use mathlib.Core.Bool.{Bool, true, false}
+use mathlib.Core.List.{List, [], _∷_}
+use native.Mathlib.Omega.{arith}
+use borrow.Author.Tests.{le-leb, lt-leb, eqb-true}
+use lib.Dec.{leb}
+use lib.ListN.{length}
+use Rattle.refusal.specs.Outcome.{Told, Outcome, accepted, refused, require, _>>=_}
+use Rattle.grid.specs.Axis.{_to_, firstStep}
+use Rattle.component.specs.Bytes.{between}
+use Rattle.component.specs.Field.{Head, Field, head, field, exactly, numbers, number, axis}
+use Rattle.component.specs.Sensor.{sensor}
+use Rattle.component.specs.Component.{Component, Kind, standard, measured, Run, Axes, Rows, axleFields, axesFields, measuredFields, kindFields, component}
+use Rattle.component.specs.declared.sensor.Sensor.{Sensor}
+use Rattle.layout.specs.Layout.{numberBytes, sensorNumbers}
+use Rattle.layout.specs.Rules.{AreBytes, InRange}
+use Rattle.layout.specs.Faults.{Stands}
+use Rattle.layout.specs.Acceptance.{AxleStands, SpeedsStand, TorquesStand, SensorStands, AxesStand, Fault, in-kind, in-line, in-ratio, in-speeds, in-torques, in-input, in-output, in-rows, after-torques, after-rows}
+use Rattle.layout.proofs.FieldBytes.{length-number-bytes}
+use Rattle.layout.proofs.OneField.{Decided, wrong, right, told-as, field-accepted, field-refused, field-decided}
+use Rattle.layout.proofs.BodyChecks.{one-byte-checked, two-bytes-checked, axis-checked, torqueAxis, torque-checked, sensor-checked, rows-checked}
+
+-- ---- a test after a field is a test in its body check
+module _ {A B : Type 0} (test : A → Bool) (number : ℕ) (after : Field A → Outcome B) where
+  by-test : (a : A) (place end : ℕ) (b : Bool)
+      → (require b number place >>= λ _. after (record { value = a; start = place; next = end }))
+      ≡ (((require b number place >>= λ _. accepted a) >>= λ v. accepted (record { value = v; start = place; next = end })) >>= after)
+  by-test a place end true = refl
+  by-test a place end false = refl
+
+  by-value : (place end : ℕ) (o : Outcome A)
+      → ((o >>= λ v. accepted (record { value = v; start = place; next = end })) >>= λ f. (require (test (f .value)) number (f .start) >>= λ _. after f))
+      ≡ (((o >>= λ a. (require (test a) number place >>= λ _. accepted a)) >>= λ v. accepted (record { value = v; start = place; next = end })) >>= after)
+  by-value place end (accepted a) = by-test a place end (test a)
+  by-value place end (refused t) = refl
+
+  by-head : (bytes : List ℕ) (check : List ℕ → ℕ → Outcome A) (o : Outcome Head)
+      → ((o >>= λ found. (check (between bytes (found .start) (found .end)) (found .start) >>= λ v. accepted (record { value = v; start = found .start; next = found .end })))
+      >>= λ f. (require (test (f .value)) number (f .start) >>= λ _. after f))
+      ≡ ((o >>= λ found. ((check (between bytes (found .start) (found .end)) (found .start) >>= λ a. (require (test a) number (found .start) >>= λ _. accepted a))
+      >>= λ v. accepted (record { value = v; start = found .start; next = found .end })))
+      >>= after)
+  by-head bytes check (accepted found) = by-value (found .start) (found .end) (check (between bytes (found .start) (found .end)) (found .start))
+  by-head bytes check (refused t) = refl
+
+-- tags 4 and 5 with the first step tested in the body of tag 5
+abbrev axesTested : List ℕ → ℕ → Outcome (Run Axes)
+axesTested bytes at = do
+  speeds ← field bytes at 4 (numbers 2 32) (axis (1 to 3000))
+  torques ← field bytes (speeds .next) 5 (numbers 2 64) torqueAxis
+  accepted (record {
+    value = record { speeds = speeds .value; torques = torques .value };
+    next = torques .next;
+  })
+
+axes-tested : (bytes : List ℕ) (at : ℕ) → axesFields bytes at ≡ axesTested bytes at
+unfolding axesFields field
+axes-tested bytes at =
+    ap (λ (next : Field (List ℕ) → Outcome (Run Axes)). field bytes at 4 (numbers 2 32) (axis (1 to 3000)) >>= next)
+    (fun-ext λ speeds. by-head firstStep 6 (λ torques. accepted (record { value = record { speeds = speeds .value; torques = torques .value }; next = torques .next })) bytes (axis (0 to 50000)) (head bytes (speeds .next) 5 (numbers 2 64)))
+
+module _ (bytes : List ℕ) where
+  -- ---- tags 1 to 3
+  module _ (kind : ℕ) (there : Stands bytes 0 1 (exactly 1) (kind ∷ [])) (range : InRange (1 to 2) kind) where
+    kind-read : field bytes 0 1 (exactly 1) (number (1 to 2)) ≡ accepted (record { value = kind; start = 3; next = 4 })
+    kind-read = field-accepted (one-byte-checked (1 to 2)) bytes 0 1 kind 4 refl there range
+
+  module _ (line : ℕ) (there : Stands bytes 4 2 (exactly 1) (line ∷ [])) (range : InRange (1 to 5) line) where
+    line-read : field bytes 4 2 (exactly 1) (number (1 to 5)) ≡ accepted (record { value = line; start = 7; next = 8 })
+    line-read = field-accepted (one-byte-checked (1 to 5)) bytes 4 2 line 8 refl there range
+
+  axle-read : (kind line ratio : ℕ) → AxleStands bytes kind line ratio
+      → axleFields bytes 0 ≡ accepted (record { value = record { kind = kind; line = line; ratio = ratio }; next = 13 })
+  unfolding axleFields
+  axle-read kind line ratio s =
+      rw (kind-read kind (s .kind-there) (s .kind-range), line-read line (s .line-there) (s .line-range), field-accepted (two-bytes-checked (1000 to 20000)) bytes 8 3 ratio 13 refl (s .ratio-there) (s .ratio-range))
+
+  -- ---- tags 4 and 5
+  speeds-read : (speeds : List ℕ) (m : ℕ) → length speeds ≡ m → SpeedsStand bytes speeds
+      → field bytes 13 4 (numbers 2 32) (axis (1 to 3000)) ≡ accepted (record { value = speeds; start = 16; next = 16 + 2 * m })
+  speeds-read speeds m e s =
+      field-accepted (axis-checked (1 to 3000) 32) bytes 13 4 speeds (16 + 2 * m) (omega (arith, length-number-bytes speeds)) (s .there) (s .rules)
+
+  axes-read : (speeds torques : List ℕ) (m n : ℕ) → length speeds ≡ m → length torques ≡ n → SpeedsStand bytes speeds → TorquesStand bytes m torques
+      → axesFields bytes 13 ≡ accepted (record { value = record { speeds = speeds; torques = torques }; next = 19 + 2 * m + 2 * n })
+  axes-read speeds torques m n e f s t =
+      let place : 16 + 2 * m + 3 + length (numberBytes torques) ≡ 19 + 2 * m + 2 * n = omega (arith, length-number-bytes torques) in
+      axes-tested bytes 13
+      ∙ rw (speeds-read speeds m e s, field-accepted torque-checked bytes (16 + 2 * m) 5 torques (19 + 2 * m + 2 * n) place (t .there) (record { rules = t .rules; step = t .step }))
+
+  -- ---- tags 6 to 8, after m speeds and n torques
+  module _ (m n : ℕ) where
+    input-read : (input : Sensor) → SensorStands bytes (19 + 2 * m + 2 * n) 6 input
+        → field bytes (19 + 2 * m + 2 * n) 6 (exactly 18) sensor ≡ accepted (record { value = input; start = 19 + 2 * m + 2 * n + 3; next = 40 + 2 * m + 2 * n })
+    input-read input s =
+        field-accepted sensor-checked bytes (19 + 2 * m + 2 * n) 6 input (40 + 2 * m + 2 * n) (omega (arith, length-number-bytes (sensorNumbers input))) (s .there) (s .rules)
+
+    output-read : (output : Sensor) → SensorStands bytes (40 + 2 * m + 2 * n) 7 output
+        → field bytes (40 + 2 * m + 2 * n) 7 (exactly 18) sensor ≡ accepted (record { value = output; start = 40 + 2 * m + 2 * n + 3; next = 61 + 2 * m + 2 * n })
+    output-read output s =
+        field-accepted sensor-checked bytes (40 + 2 * m + 2 * n) 7 output (61 + 2 * m + 2 * n) (omega (arith, length-number-bytes (sensorNumbers output))) (s .there) (s .rules)
+
+    pub measured-read : (input output : Sensor) (body : List ℕ) → SensorStands bytes (19 + 2 * m + 2 * n) 6 input → SensorStands bytes (40 + 2 * m + 2 * n) 7 output
+        → Stands bytes (61 + 2 * m + 2 * n) 8 (exactly (8 * (m * n))) body
+        → kindFields bytes (19 + 2 * m + 2 * n) 2 (m * n)
+        ≡ accepted (record { value = measured input output (record { start = 64 + 2 * m + 2 * n; bytes = body }); next = 64 + 2 * m + 2 * n + 8 * (m * n) })
+    unfolding kindFields measuredFields
+    measured-read input output body i o s =
+        let long = eqb-true (length body) (8 * (m * n)) (s .fits) in
+        let r : Rows = record { start = 64 + 2 * m + 2 * n; bytes = body } in
+        let e : 61 + 2 * m + 2 * n + 3 + length body ≡ 64 + 2 * m + 2 * n + 8 * (m * n) = omega arith in
+        rw (input-read input i, output-read output o, field-accepted (rows-checked (exactly (8 * (m * n)))) bytes (61 + 2 * m + 2 * n) 8 r (64 + 2 * m + 2 * n + 8 * (m * n)) e s (omega arith))
+
+  -- ---- all fields
+  -- "then 12", where everything else is read
+  abbrev ending : (line ratio : ℕ) (speeds torques : List ℕ) → Run Kind → Outcome Component
+  ending line ratio speeds torques kind = do
+    _ ← require (leb (length bytes) (kind .next)) 12 (kind .next)
+    accepted (record { kind = kind .value; line = line; ratio = ratio; speeds = speeds; torques = torques })
+
+  pub after-axes : (kind m n : ℕ) (s : AxesStand bytes kind m n)
+      → component bytes ≡ (kindFields bytes (19 + 2 * m + 2 * n) kind (m * n) >>= ending (s .line) (s .ratio) (s .speeds) (s .torques))
+  unfolding component
+  after-axes kind m n s =
+      rw (axle-read kind (s .line) (s .ratio) (s .axle-stands), axes-read (s .speeds) (s .torques) m n (s .speed-count) (s .torque-count) (s .speeds-stand) (s .torques-stand), s .speed-count, s .torque-count)
+
+  -- the first field that is wrong decides
+  pub fault-refused : (t : Told) → Fault bytes t → component bytes ≡ refused t
+  unfolding component axleFields kindFields measuredFields
+  fault-refused t (in-kind f) = rw (field-refused (one-byte-checked (1 to 2)) bytes 0 1 t f)
+  fault-refused t (in-line kind k r f) = rw (kind-read kind k r, field-refused (one-byte-checked (1 to 5)) bytes 4 2 t f)
+  fault-refused t (in-ratio kind line k r l q f) =
+      rw (kind-read kind k r, line-read line l q, field-refused (two-bytes-checked (1000 to 20000)) bytes 8 3 t f)
+  fault-refused t (in-speeds kind line ratio a f) =
+      rw (axle-read kind line ratio a, axes-tested bytes 13, field-refused (axis-checked (1 to 3000) 32) bytes 13 4 t f)
+  fault-refused t (in-torques kind line ratio speeds a s f) =
+      rw (axle-read kind line ratio a, axes-tested bytes 13, speeds-read speeds (length speeds) refl s, field-refused torque-checked bytes (16 + 2 * length speeds) 5 t f)
+  fault-refused t (in-input m n s f) =
+      after-axes 2 m n s ∙ rw (field-refused sensor-checked bytes (19 + 2 * m + 2 * n) 6 t f)
+  fault-refused t (in-output m n input s i f) =
+      after-axes 2 m n s ∙ rw (input-read m n input i, field-refused sensor-checked bytes (40 + 2 * m + 2 * n) 7 t f)
+  fault-refused t (in-rows m n input output s i o f) =
+      after-axes 2 m n s ∙ rw (input-read m n input i, output-read m n output o, field-refused (rows-checked (exactly (8 * (m * n)))) bytes (61 + 2 * m + 2 * n) 8 t f)
+  fault-refused t (after-torques m n s more e) =
+      after-axes 1 m n s ∙ told-as _ t _ (rw (lt-leb (length bytes) (19 + 2 * m + 2 * n) more)) e
+  fault-refused t (after-rows m n input output body s i o r more e) =
+      after-axes 2 m n s ∙ told-as _ t _ (rw (measured-read m n input output body i o r, lt-leb (length bytes) (64 + 2 * m + 2 * n + 8 * (m * n)) more)) e
+
+  -- fields that all stand there, and nothing after them
+  pub standard-accepted : (m n : ℕ) (s : AxesStand bytes 1 m n) → length bytes ≤ 19 + 2 * m + 2 * n
+      → component bytes ≡ accepted (record { kind = standard; line = s .line; ratio = s .ratio; speeds = s .speeds; torques = s .torques })
+  unfolding kindFields
+  standard-accepted m n s none = after-axes 1 m n s ∙ rw (le-leb (length bytes) (19 + 2 * m + 2 * n) none)
+
+  pub measured-accepted : (m n : ℕ) (input output : Sensor) (body : List ℕ) (s : AxesStand bytes 2 m n)
+      → SensorStands bytes (19 + 2 * m + 2 * n) 6 input → SensorStands bytes (40 + 2 * m + 2 * n) 7 output
+      → Stands bytes (61 + 2 * m + 2 * n) 8 (exactly (8 * (m * n))) body → length bytes ≤ 64 + 2 * m + 2 * n + 8 * (m * n)
+      → component bytes ≡ accepted (record {
+        kind = measured input output (record { start = 64 + 2 * m + 2 * n; bytes = body });
+        line = s .line;
+        ratio = s .ratio;
+        speeds = s .speeds;
+        torques = s .torques;
+      })
+  measured-accepted m n input output body s i o r none =
+      after-axes 2 m n s ∙ rw (measured-read m n input output body i o r, le-leb (length bytes) (64 + 2 * m + 2 * n + 8 * (m * n)) none)
+
+  -- ---- no third case
+  module _ (b : AreBytes bytes) where
+    pub axes-decided : Decided (Fault bytes) (λ (kind : ℕ). (m : ℕ) × (n : ℕ) × AxesStand bytes kind m n)
+    axes-decided = elim (field-decided (one-byte-checked (1 to 2)) bytes 0 1 b) [
+      | wrong t f ↦ wrong t (in-kind f)
+      | right kind k ↦ elim (field-decided (one-byte-checked (1 to 5)) bytes 4 2 b) [
+        | wrong t f ↦ wrong t (in-line kind (k .0) (k .1) f)
+        | right line l ↦ elim (field-decided (two-bytes-checked (1000 to 20000)) bytes 8 3 b) [
+          | wrong t f ↦ wrong t (in-ratio kind line (k .0) (k .1) (l .0) (l .1) f)
+          | right ratio r ↦
+              let axle : AxleStands bytes kind line ratio = record { kind-there = k .0; kind-range = k .1; line-there = l .0; line-range = l .1; ratio-there = r .0; ratio-range = r .1 } in
+              elim (field-decided (axis-checked (1 to 3000) 32) bytes 13 4 b) [
+                | wrong t f ↦ wrong t (in-speeds kind line ratio axle f)
+                | right speeds s ↦
+                    let speeds-stand : SpeedsStand bytes speeds = record { there = s .0; rules = s .1 } in
+                    elim (field-decided torque-checked bytes (16 + 2 * length speeds) 5 b) [
+                      | wrong t f ↦ wrong t (in-torques kind line ratio speeds axle speeds-stand f)
+                      | right torques q ↦ right kind (
+                        length speeds,
+                        length torques,
+                        record {
+                          line = line;
+                          ratio = ratio;
+                          speeds = speeds;
+                          torques = torques;
+                          axle-stands = axle;
+                          speeds-stand = speeds-stand;
+                          torques-stand = record { there = q .0; rules = q .1 .rules; step = q .1 .step };
+                          speed-count = refl;
+                          torque-count = refl;
+                        },
+                      )
+                    ]
+              ]
+        ]
+      ]
+    ]

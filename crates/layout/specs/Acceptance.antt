@@ -1,0 +1,93 @@
+-- Component data is accepted exactly when no refusal applies.
+use Prim.Native.Nat.{ℕ, _+_, _-_, _*_, _≤_, _<_}
+use mathlib.Core.Path.{_≡_}
+use mathlib.Core.List.{List, [], _∷_}
+use lib.ListN.{length, getD}
+use Rattle.refusal.specs.Outcome.{Told, accepted, refused}
+use Rattle.grid.specs.Axis.{_to_}
+use Rattle.component.specs.Field.{exactly, numbers}
+use Rattle.component.specs.Component.{Component, component}
+use Rattle.component.specs.declared.sensor.Sensor.{Sensor}
+use Rattle.layout.specs.Layout.{twoBytes, numberBytes, sensorNumbers, layout}
+use Rattle.layout.specs.Rules.{AreBytes, InRange, AxisRules, SensorRules, Rules}
+use Rattle.layout.specs.Faults.{refusal, Stands, FieldFault, NumberFault, AxisFault, TorqueFault, SensorFault, NoFault}
+
+-- ---- fields that stand in their places and keep their rules
+
+pub record AxleStands (bytes : List ℕ) (kind line ratio : ℕ) : Type 0 where
+  pub kind-there : Stands bytes 0 1 (exactly 1) (kind ∷ [])
+  pub kind-range : InRange (1 to 2) kind
+  pub line-there : Stands bytes 4 2 (exactly 1) (line ∷ [])
+  pub line-range : InRange (1 to 5) line
+  pub ratio-there : Stands bytes 8 3 (exactly 2) (twoBytes ratio)
+  pub ratio-range : InRange (1000 to 20000) ratio
+
+pub record SpeedsStand (bytes : List ℕ) (speeds : List ℕ) : Type 0 where
+  pub there : Stands bytes 13 4 (numbers 2 32) (numberBytes speeds)
+  pub rules : AxisRules (1 to 3000) 32 speeds
+
+-- after m speeds
+pub record TorquesStand (bytes : List ℕ) (m : ℕ) (torques : List ℕ) : Type 0 where
+  pub there : Stands bytes (16 + 2 * m) 5 (numbers 2 64) (numberBytes torques)
+  pub rules : AxisRules (0 to 50000) 64 torques
+  pub step : getD torques 0 0 ≤ getD torques 1 0 - getD torques 0 0
+
+pub record SensorStands (bytes : List ℕ) (at tag : ℕ) (sensor : Sensor) : Type 0 where
+  pub there : Stands bytes at tag (exactly 18) (numberBytes (sensorNumbers sensor))
+  pub rules : SensorRules sensor
+
+-- tags 1 to 5 stand there, with m speeds and n torques
+pub record AxesStand (bytes : List ℕ) (kind m n : ℕ) : Type 0 where
+  pub line : ℕ
+  pub ratio : ℕ
+  pub speeds : List ℕ
+  pub torques : List ℕ
+  pub axle-stands : AxleStands bytes kind line ratio
+  pub speeds-stand : SpeedsStand bytes speeds
+  pub torques-stand : TorquesStand bytes m torques
+  pub speed-count : length speeds ≡ m
+  pub torque-count : length torques ≡ n
+
+-- ---- the first field that is wrong, the ones before it being right
+
+pub data Fault (bytes : List ℕ) (t : Told) : Type 0 where
+  in-kind : FieldFault bytes 0 1 (exactly 1) (NumberFault (1 to 2)) t → Fault bytes t
+  in-line : (kind : ℕ) → Stands bytes 0 1 (exactly 1) (kind ∷ []) → InRange (1 to 2) kind
+      → FieldFault bytes 4 2 (exactly 1) (NumberFault (1 to 5)) t → Fault bytes t
+  in-ratio : (kind line : ℕ) → Stands bytes 0 1 (exactly 1) (kind ∷ []) → InRange (1 to 2) kind
+      → Stands bytes 4 2 (exactly 1) (line ∷ []) → InRange (1 to 5) line
+      → FieldFault bytes 8 3 (exactly 2) (NumberFault (1000 to 20000)) t → Fault bytes t
+  in-speeds : (kind line ratio : ℕ) → AxleStands bytes kind line ratio
+      → FieldFault bytes 13 4 (numbers 2 32) (AxisFault (1 to 3000)) t → Fault bytes t
+  in-torques : (kind line ratio : ℕ) (speeds : List ℕ) → AxleStands bytes kind line ratio → SpeedsStand bytes speeds
+      → FieldFault bytes (16 + 2 * length speeds) 5 (numbers 2 64) TorqueFault t → Fault bytes t
+  in-input : (m n : ℕ) → AxesStand bytes 2 m n
+      → FieldFault bytes (19 + 2 * m + 2 * n) 6 (exactly 18) SensorFault t → Fault bytes t
+  in-output : (m n : ℕ) (input : Sensor) → AxesStand bytes 2 m n → SensorStands bytes (19 + 2 * m + 2 * n) 6 input
+      → FieldFault bytes (40 + 2 * m + 2 * n) 7 (exactly 18) SensorFault t → Fault bytes t
+  in-rows : (m n : ℕ) (input output : Sensor) → AxesStand bytes 2 m n
+      → SensorStands bytes (19 + 2 * m + 2 * n) 6 input → SensorStands bytes (40 + 2 * m + 2 * n) 7 output
+      → FieldFault bytes (61 + 2 * m + 2 * n) 8 (exactly (8 * (m * n))) NoFault t → Fault bytes t
+  -- 12: "bytes after the last field", "first such byte"
+  after-torques : (m n : ℕ) → AxesStand bytes 1 m n → 19 + 2 * m + 2 * n < length bytes → t ≡ refusal 12 (19 + 2 * m + 2 * n) → Fault bytes t
+  after-rows : (m n : ℕ) (input output : Sensor) (rows : List ℕ) → AxesStand bytes 2 m n
+      → SensorStands bytes (19 + 2 * m + 2 * n) 6 input → SensorStands bytes (40 + 2 * m + 2 * n) 7 output
+      → Stands bytes (61 + 2 * m + 2 * n) 8 (exactly (8 * (m * n))) rows
+      → 64 + 2 * m + 2 * n + 8 * (m * n) < length bytes → t ≡ refusal 12 (64 + 2 * m + 2 * n + 8 * (m * n)) → Fault bytes t
+
+-- ---- the statements
+
+-- What is accepted keeps every rule, and its fields laid out again are the data's bytes.
+abbrev pub Sound : Type 0
+Sound = (bytes : List ℕ) (c : Component) → AreBytes bytes → component bytes ≡ accepted c → Rules c × (layout c ≡ bytes)
+
+-- Numbers that keep every rule, laid out, are read as those numbers.
+abbrev pub Complete : Type 0
+Complete = (c : Component) → Rules c → component (layout c) ≡ accepted c
+
+-- A refusal means that its row's condition holds at its place, and that everything before is right; and the other way round.
+abbrev pub Refused : Type 0
+Refused = (bytes : List ℕ) (t : Told) → AreBytes bytes → component bytes ≡ refused t → Fault bytes t
+
+abbrev pub RefusedOnlyThen : Type 0
+RefusedOnlyThen = (bytes : List ℕ) (t : Told) → AreBytes bytes → Fault bytes t → component bytes ≡ refused t

@@ -1,0 +1,56 @@
+-- Document 01, "Component data", the other way round: the bytes that numbers are laid out as.
+use Prim.Native.Nat.{ℕ, _/_, _%_}
+use mathlib.Core.List.{List, [], _∷_, _++_}
+use lib.ListN.{length}
+use Rattle.component.specs.Component.{Component, Kind, standard, measured}
+use Rattle.component.specs.declared.sensor.Sensor.{Sensor}
+
+-- a number as two bytes, "most significant byte first"
+abbrev pub twoBytes : ℕ → List ℕ
+twoBytes n = n / 256 ∷ n % 256 ∷ []
+
+-- numbers of two bytes each
+unfoldable pub numberBytes : List ℕ → List ℕ
+numberBytes [] = []
+numberBytes (n ∷ ns) = twoBytes n ++ numberBytes ns
+
+-- "one byte tag, two bytes length, then the body"
+unfoldable pub fieldBytes : ℕ → List ℕ → List ℕ
+fieldBytes tag body = tag ∷ (twoBytes (length body) ++ body)
+
+-- a sensor's nine numbers in their order
+abbrev pub sensorNumbers : Sensor → List ℕ
+sensorNumbers s =
+    s .nominal
+    ∷ s .sensitivity
+    ∷ s .zero
+    ∷ s .calibration
+    ∷ s .advancement
+    ∷ s .parasitic
+    ∷ s .share
+    ∷ s .difference
+    ∷ s .span
+    ∷ []
+
+-- "kind, 1 standard or 2 measured"
+abbrev pub kindNumber : Kind → ℕ
+kindNumber standard = 1
+kindNumber (measured input output rows) = 2
+
+-- tags 6 to 8, "measured only"
+unfoldable pub measuredBytes : Kind → List ℕ
+measuredBytes standard = []
+measuredBytes (measured input output rows) =
+    fieldBytes 6 (numberBytes (sensorNumbers input))
+    ++ (fieldBytes 7 (numberBytes (sensorNumbers output))
+    ++ fieldBytes 8 (rows .bytes))
+
+-- "Exactly these fields, in this order."
+unfoldable pub layout : Component → List ℕ
+layout c =
+    fieldBytes 1 (kindNumber (c .kind) ∷ [])
+    ++ (fieldBytes 2 (c .line ∷ [])
+    ++ (fieldBytes 3 (twoBytes (c .ratio))
+    ++ (fieldBytes 4 (numberBytes (c .speeds))
+    ++ (fieldBytes 5 (numberBytes (c .torques))
+    ++ measuredBytes (c .kind)))))
