@@ -116,25 +116,10 @@ pub struct Axes {
     pub grid: Grid,
 }
 
-// Axes with no numbers.
-fn no_grid() -> Grid
-    ensures { λ r. ⌜ (r .speeds .count ≡ 0) × (r .torques .count ≡ 0) ⌝ }
-{
-    let speeds = SpeedAxis {
-        numbers: [0u16; 32],
-        count: 0,
-    };
-    let torques = TorqueAxis {
-        numbers: [0u16; 64],
-        count: 0,
-    };
-    Grid { speeds, torques }
-}
-
 fn refused_axes(x: Refusal) -> Axes
     ensures { λ r. ⌜ (r .answer ≡ AxesAnswer.Refused x) × (r .grid .speeds .count ≡ 0) × (r .grid .torques .count ≡ 0) ⌝ }
 {
-    let grid = no_grid();
+    let grid = grid::empty_grid();
     Axes {
         answer: AxesAnswer::Refused(x),
         grid,
@@ -267,7 +252,7 @@ fn read_kind(data: &[u8], start: Cursor, kind: u16, points: usize) -> MeasuredRe
 fn refused(x: Refusal) -> Reading
     ensures { λ r. ⌜ (r .answer ≡ Answer.Refused x) × NoNumbers (r .component) ⌝ }
 {
-    let grid = no_grid();
+    let grid = grid::empty_grid();
     let input = no_sensor();
     let output = no_sensor();
     let component = Component {

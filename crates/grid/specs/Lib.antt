@@ -1,4 +1,5 @@
 pub mod Every
+pub mod Lists
 pub mod Axis
 pub mod Fault
 pub mod Map

@@ -48,6 +48,21 @@ pub struct Grid {
     pub torques: TorqueAxis,
 }
 
+// Axes with no numbers, as they stand in a refused answer.
+pub fn empty_grid() -> Grid
+    ensures { λ r. ⌜ (r .speeds .count ≡ 0) × (r .torques .count ≡ 0) ⌝ }
+{
+    let speeds = SpeedAxis {
+        numbers: [0u16; 32],
+        count: 0,
+    };
+    let torques = TorqueAxis {
+        numbers: [0u16; 64],
+        count: 0,
+    };
+    Grid { speeds, torques }
+}
+
 // The first number of an axis that is wrong, by its index.
 pub enum AxisFault {
     Nothing,

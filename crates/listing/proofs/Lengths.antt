@@ -1,0 +1,97 @@
+-- How long the texts are. Assumes nothing.
+use Prim.Native.Nat.{ℕ, zero, suc, _+_, _-_, _*_, _/_, _^_, _≤_, _<_}
+use mathlib.Core.Path.{_≡_, refl}
+use mathlib.Core.Bool.{true}
+use mathlib.Core.List.{List}
+use native.Mathlib.Nat.{suc-mul, mul-le-mul, mul-le-mul-right}
+use native.Mathlib.Omega.{arith}
+use lib.ListN.{length, getD, length-append}
+use Rattle.refusal.specs.Outcome.{Told}
+use Rattle.refusal.specs.Table.{number, place, told}
+use Rattle.refusal.specs.declared.Refusal.{Refusal}
+use Rattle.refusal.specs.declared.Refusal.the-variants.{Incomplete, WrongTag, WrongLength, OutOfRange, NotRising, FirstTorqueAboveStep, AboveNominal, OffAxisTorque, NegativeLoss, EntryTooLarge, TooShort, TrailingBytes, SpeedOutside, TorqueAbove, NotAMap}
+use Rattle.grid.specs.declared.Grid.{Grid}
+use Rattle.grid.specs.Map.{validMap}
+use Rattle.grid.proofs.Map.{map-facts}
+use Rattle.listing.specs.Listing.{digitCount, decimal, hundredths, header, line, row, rows, lineAt, rowAt, listing, refusalLine}
+use Rattle.grid.specs.Lists.{joined}
+use Rattle.listing.proofs.Digits.{length-decimal, count-most}
+
+pub length-hundredths : (n : ℕ) → length (hundredths n) ≡ digitCount (n / 100) + 3
+unfolding hundredths
+length-hundredths n = simp length-append (omega (arith, length-decimal (n / 100)))
+
+pub length-line : (speed torque loss : ℕ) → length (line speed torque loss) ≡ length (decimal speed) + length (decimal torque) + length (hundredths loss) + 3
+unfolding line
+length-line speed torque loss = simp length-append (omega arith)
+
+pub length-listing : (grid : Grid) (entries : List ℕ) → length (listing grid entries) ≡ 18 + length (rows (grid .speeds .numbers) (grid .speeds .count) (grid .torques .numbers) (grid .torques .count) entries)
+unfolding listing header
+length-listing grid entries = simp length-append (omega arith)
+
+pub length-refusal-line : (t : Told) → length (refusalLine t) ≡ 13 + length (decimal (t .number)) + length (decimal (t .place))
+unfolding refusalLine
+length-refusal-line t = simp length-append (omega arith)
+
+-- ---- the longest
+pub joined-most : (text : ℕ → List ℕ) (most count : ℕ) → ((j : ℕ) → j < count → length (text j) ≤ most) → length (joined text count) ≤ count * most
+unfolding joined
+joined-most text most zero h = omega arith
+joined-most text most (suc count) h =
+    simp (length-append, suc-mul) (omega (arith, joined-most text most count (λ j l. h j (omega arith)), h count (omega arith)))
+
+-- the entries of speed i lie within all entries
+pub row-within : (i m n : ℕ) → i < m → i * n + n ≤ m * n
+row-within i m n h = rw suc-mul at (mul-le-mul-right n h)
+
+-- `3000,50000,100000.00` and a line feed
+pub line-most : (speed torque loss : ℕ) → speed ≤ 3000 → torque ≤ 50000 → loss ≤ 10000000 → length (line speed torque loss) ≤ 21
+line-most speed torque loss a b d =
+    let s = count-most 3 speed (omega arith) in
+    let t = count-most 4 torque (omega arith) in
+    let e = count-most 5 (loss / 100) (omega arith) in
+    omega (arith, length-line speed torque loss, length-hundredths loss, length-decimal speed, length-decimal torque)
+
+-- the listing of a map takes at most 43,026 bytes
+pub listing-most : (grid : Grid) (entries : List ℕ) → validMap grid entries ≡ true → length (listing grid entries) ≤ 43026
+unfolding rows row
+listing-most grid entries e =
+    let map = map-facts grid entries e in
+    let speeds = grid .speeds .numbers in
+    let torques = grid .torques .numbers in
+    let m = grid .speeds .count in
+    let n = grid .torques .count in
+    let each : (i : ℕ) → i < m → (j : ℕ) → j < n → length (lineAt (getD speeds i 0) torques entries (i * n) j) ≤ 21 =
+    λ i h j l. line-most _ _ _ (map .speeds .high i h) (map .torques .high j l) (map .small (i * n + j) (omega (arith, row-within i m n h))) in
+    let all : length (joined (rowAt speeds torques n entries) m) ≤ m * (n * 21) =
+    joined-most (rowAt speeds torques n entries) (n * 21) m (λ i h. joined-most (lineAt (getD speeds i 0) torques entries (i * n)) 21 n (each i h)) in
+    let widest : n * 21 ≤ 1344 = omega (arith, map .torques .fits) in
+    omega (arith, length-listing grid entries, all, mul-le-mul (map .speeds .fits) widest)
+
+-- the line of a refusal takes at most 40 bytes
+pub refusal-line-most : (t : Told) → t .number < 100 → t .place < 2 ^ 64 → length (refusalLine t) ≤ 40
+refusal-line-most t a b =
+    let n = count-most 1 (t .number) (omega arith) in
+    let p = count-most 19 (t .place) (omega arith) in
+    omega (arith, length-refusal-line t, length-decimal (t .number), length-decimal (t .place))
+
+-- no number of the table has three digits
+number-small : (x : Refusal) → number x < 100
+number-small (Incomplete p) = omega arith
+number-small (WrongTag p) = omega arith
+number-small (WrongLength p) = omega arith
+number-small (OutOfRange p) = omega arith
+number-small (NotRising p) = omega arith
+number-small (FirstTorqueAboveStep p) = omega arith
+number-small (AboveNominal p) = omega arith
+number-small (OffAxisTorque p) = omega arith
+number-small (NegativeLoss p) = omega arith
+number-small (EntryTooLarge p) = omega arith
+number-small (TooShort p) = omega arith
+number-small (TrailingBytes p) = omega arith
+number-small SpeedOutside = omega arith
+number-small TorqueAbove = omega arith
+number-small NotAMap = omega arith
+
+pub told-line-most : (x : Refusal) → place x < 2 ^ 64 → length (refusalLine (told x)) ≤ 40
+told-line-most x h = refusal-line-most (told x) (number-small x) h

@@ -1,0 +1,4 @@
+pub mod Bytes
+pub mod Listing
+pub mod Answers
+pub mod Placed

@@ -1,0 +1,116 @@
+-- Exact entries of both kinds are numbers, and entries are never below them and less than 0.01 Nm (kind 1) or 0.02 Nm (kind 2) above. Assumes nothing.
+use Prim.Native.Nat.{ℕ, _+_, _*_, _-_, _≤_}
+use mathlib.Core.Path.{_≡_, refl, ap, sym, _∙_}
+use mathlib.Core.Bool.{false}
+use mathlib.Core.List.{List, [], _∷_, map}
+use mathlib.Core.Logic.{inl, ⊎-elim}
+use native.Mathlib.Omega.{arith}
+use native.Mathlib.Nat.{mul-le-mul-right}
+use borrow.Author.Tests.{ltb-false}
+use lib.ListN.{length}
+use Rattle.arith.specs.Quotient.{quotientUp}
+use Rattle.arith.specs.Fraction.{Fraction, whole, _⊕_, _≼_, _≺_}
+use Rattle.arith.proofs.Fractions.{Is, is-itself, is-whole, is-over, is-sum, is-plus-whole, below, below-of, at-most-itself, not-both}
+use Rattle.loss.specs.Rounding.{roundUp, partAbove}
+use Rattle.loss.specs.Standard.{lineOf, standardLoss, standardEntry}
+use Rattle.loss.specs.Measured.{Reading, readingUncertainty, lossUncertainty, measuredLoss, lossIsUnderZero, allowance, fromGrains, entryOf, Output, Row, output, outputReading, readings, rowUncertainty, measuredEntry, AllInRange, RowInRange}
+use Rattle.loss.specs.Exact.{Cut, IsNumber, EntryAccurate, Exact, cut, exactStandard, rootSquare, exactMeasured}
+use Rattle.loss.proofs.Lines.{line-of-usable}
+use Rattle.loss.proofs.Rounding.{not-negative, not-negative-of, is-part-above, is-zero, roundUp-natural}
+use Rattle.loss.proofs.Values.{standardNumerator, standard-loss-is, loss-is, under-zero-by, allowance-is}
+use Rattle.loss.proofs.Readings.{in-range-divisible, AllDivisible, allowed, root-enough, root-near}
+use Rattle.loss.proofs.Cuts.{square-not-negative, exact-is-number, entry-accurate}
+
+-- ---- kind 1
+
+module _ (number ratio torque : ℕ) where
+  standard-value : Is (standardLoss (lineOf number) ratio torque) (standardNumerator (lineOf number) ratio torque) 0 (10 * lineOf number .efficiency)
+  standard-value = standard-loss-is (lineOf number) ratio torque (line-of-usable number .least)
+
+  pub standard-is-number : IsNumber (cut (exactStandard number ratio torque))
+  unfolding exactStandard
+  standard-is-number = exact-is-number _ (at-most-itself (whole 0))
+
+  -- it is a fraction: the standard loss is on both sides of it
+  pub standard-at-or-below : cut (exactStandard number ratio torque) .AtOrBelow (standardLoss (lineOf number) ratio torque)
+  unfolding cut exactStandard
+  standard-at-or-below = inl (at-most-itself _)
+
+  pub standard-at-or-above : cut (exactStandard number ratio torque) .AtOrAbove (standardLoss (lineOf number) ratio torque)
+  unfolding cut exactStandard
+  standard-at-or-above = (at-most-itself _, square-not-negative _)
+
+  no-uncertainty : roundUp (standardLoss (lineOf number) ratio torque ⊕ partAbove (whole 0) (whole 0)) ≡ standardEntry number ratio torque
+  unfolding standardEntry
+  no-uncertainty =
+      let zero = is-zero (10 * lineOf number .efficiency) (standard-value .pos) in
+      roundUp-natural (is-sum standard-value (is-part-above zero zero)) ∙ ap (λ (n : ℕ). quotientUp n (10 * lineOf number .efficiency)) (omega arith) ∙ sym (roundUp-natural standard-value)
+
+  pub standard-entry-accurate : EntryAccurate 1 (cut (exactStandard number ratio torque)) (standardEntry number ratio torque)
+  unfolding exactStandard
+  standard-entry-accurate =
+      rw (← no-uncertainty)
+      (entry-accurate (exactStandard number ratio torque) (whole 0) 0
+      (not-negative standard-value (omega arith)) (at-most-itself (whole 0)) (at-most-itself (whole 0))
+      (square-not-negative (whole 0))
+      (λ y h _. not-negative (is-plus-whole 0 (is-itself y)) (omega (arith, not-negative-of (is-itself y) h))))
+
+-- ---- kind 2
+
+-- For any list of readings whose allowed excess is at most 99 grains, and any allowance that is not negative.
+pub readings-accurate : (x : Exact) (rs : List Reading) → AllDivisible rs → allowed rs ≤ 99000 →
+    whole 0 ≼ x .loss → whole 0 ≼ x .allowance → x .square ≡ rootSquare rs →
+    EntryAccurate 2 (cut x) (roundUp (x .loss ⊕ partAbove (fromGrains (lossUncertainty (map readingUncertainty rs))) (x .allowance)))
+readings-accurate x rs ok small loss allowance e =
+    entry-accurate x (fromGrains (lossUncertainty (map readingUncertainty rs))) 1 loss allowance
+    (not-negative (is-over (lossUncertainty (map readingUncertainty rs)) 100 (omega arith)) (omega arith))
+    (rw e (root-enough rs ok))
+    (λ y h k. root-near rs ok small y h (rw e at k))
+
+allowance-not-negative : (ratio input output : ℕ) → whole 0 ≼ allowance ratio input output
+allowance-not-negative ratio input output = not-negative (allowance-is ratio input output) (omega arith)
+
+loss-not-negative : (ratio input output : ℕ) → lossIsUnderZero ratio input output ≡ false → whole 0 ≼ measuredLoss ratio input output
+loss-not-negative ratio input output e =
+    not-negative (loss-is ratio input output) (ltb-false _ _ (sym (under-zero-by ratio input output) ∙ e))
+
+outputs-divisible : (os : List Output) → AllInRange os → AllDivisible (map outputReading os)
+outputs-divisible [] r = tt
+outputs-divisible (o ∷ os) r = (in-range-divisible (r .0), outputs-divisible os (r .1))
+
+outputs-allowed : (os : List Output) → allowed (map outputReading os) ≡ 5000 * length os
+outputs-allowed [] = omega arith
+outputs-allowed (o ∷ os) = omega (arith, outputs-allowed os)
+
+pub measured-is-number : (row : Row) → IsNumber (cut (exactMeasured row))
+unfolding exactMeasured
+measured-is-number row = exact-is-number _ (allowance-not-negative (row .ratio) (row .input) (output row))
+
+pub measured-entry-accurate : (row : Row) → RowInRange row → EntryAccurate 2 (cut (exactMeasured row)) (measuredEntry row)
+unfolding exactMeasured measuredEntry entryOf rowUncertainty readings
+measured-entry-accurate row r =
+    readings-accurate (exactMeasured row) (readings row)
+    (in-range-divisible (r .sensor), outputs-divisible (row .outputs) (r .outputs))
+    (omega (arith, outputs-allowed (row .outputs), r .ratio, r .few))
+    (loss-not-negative (row .ratio) (row .input) (output row) (r .loss))
+    (allowance-not-negative (row .ratio) (row .input) (output row))
+    refl
+
+-- ---- a smaller excess is within a larger one
+
+pub wider : {excess more e : ℕ} {x : Cut} → excess ≤ more → EntryAccurate excess x e → EntryAccurate more x e
+wider {excess} {more} {e} l h = record { never-below = h .never-below; near = λ q a. further q (h .near q a) }
+  where
+    further : (q : Fraction) → whole e ≺ q ⊕ whole excess → whole e ≺ q ⊕ whole more
+    further q b =
+        below (is-whole e) (is-plus-whole more (is-itself q))
+        (omega (arith, below-of (is-whole e) (is-plus-whole excess (is-itself q)) b, mul-le-mul-right (q .den) l))
+
+-- ---- there are fractions on both sides
+
+module _ {excess e : ℕ} {x : Cut} (number : IsNumber x) (accurate : EntryAccurate excess x e) (q : Fraction) where
+  pub above-entry : whole e ≺ q → x .AtOrAbove q
+  above-entry h = ⊎-elim (λ a. absurd (not-both _ _ h (accurate .never-below q a))) (λ a. a) (number .side q)
+
+  pub below-entry : q ⊕ whole excess ≼ whole e → x .AtOrBelow q
+  below-entry h = ⊎-elim (λ a. a) (λ a. absurd (not-both _ _ (accurate .near q a) h)) (number .side q)

@@ -1,0 +1,224 @@
+-- Document 01, "Measured loss". Ratios and factors are in thousandths, torques and losses in hundredths of Nm, uncertainties in grains. Assumes nothing.
+use Prim.Native.Nat.{ℕ, _+_, _*_, _≤_}
+use mathlib.Core.Bool.{Bool, true, false}
+use mathlib.Core.List.{List, [], _∷_, map}
+use mathlib.Core.Path.{_≡_}
+use native.Mathlib.Nat.{le-antisymm}
+use native.Mathlib.Omega.{arith}
+use lib.ListN.{length}
+use Rattle.arith.specs.Quotient.{quotientUp, quotientUp-law, quotientUp-least}
+use Rattle.arith.specs.Root.{rootUp}
+use Rattle.arith.proofs.Roots.{rootUp-law}
+use Rattle.arith.specs.Fraction.{Fraction, _over_, whole, _⊕_, _⊖_, _⊗_, larger}
+use Rattle.component.specs.declared.sensor.Sensor.{Sensor}
+use Rattle.loss.specs.declared.FixedParts.{FixedParts}
+use Rattle.loss.specs.declared.Steps.{Steps}
+use Rattle.loss.specs.declared.MeasuredLoss.{MeasuredLoss}
+use Rattle.loss.specs.declared.MeasuredLoss.the-variants.{UnderZero, Loss}
+use Rattle.loss.specs.Rounding.{roundUp, partAbove, underZero, Same}
+
+-- ---- "For one sensor, with C its torque in hundredths, four parts in grains"
+
+infix 60 _per_
+-- a part before it is rounded
+pub record Part : Type 0 where
+  pub numerator : ℕ
+  pub denominator : ℕ
+
+abbrev pub _per_ : ℕ → ℕ → Part
+n per d = record { numerator = n; denominator = d }
+
+-- "each rounded up to a whole grain"
+unfoldable pub grainsUp : Part → ℕ
+grainsUp p = quotientUp (p .numerator) (p .denominator)
+
+-- "w × d × C / (100,000 × R)"
+unfoldable pub temperatureOnSensitivity : Sensor → ℕ → Part
+temperatureOnSensitivity sensor C =
+    let w = sensor .sensitivity in
+    let d = sensor .difference in
+    let R = sensor .span in
+    w * d * C per 100000 * R
+
+-- "z × d × N / (1,000 × R)"
+unfoldable pub temperatureOnZero : Sensor → Part
+temperatureOnZero sensor =
+    let z = sensor .zero in
+    let d = sensor .difference in
+    let N = sensor .nominal in
+    let R = sensor .span in
+    z * d * N per 1000 * R
+
+-- "c × N × 10 / k"
+unfoldable pub calibration : Sensor → Part
+calibration sensor =
+    let c = sensor .calibration in
+    let N = sensor .nominal in
+    let k = sensor .advancement in
+    c * N * 10 per k
+
+-- "s × p × N / 100,000"
+unfoldable pub parasiticLoads : Sensor → Part
+parasiticLoads sensor =
+    let s = sensor .parasitic in
+    let p = sensor .share in
+    let N = sensor .nominal in
+    s * p * N per 100000
+
+-- what does not depend on the torque
+unfoldable pub fixedParts : Sensor → FixedParts
+fixedParts sensor = record {
+  zero = grainsUp (temperatureOnZero sensor);
+  calibration = grainsUp (calibration sensor);
+  parasitic = grainsUp (parasiticLoads sensor);
+}
+
+-- "4 × (a×a + b×b + 3×g×g + h×h)"
+abbrev pub fourSquares : (a b g h : ℕ) → ℕ
+fourSquares a b g h = 4 * (a * a + b * b + 3 * (g * g) + h * h)
+
+-- "The sensor's uncertainty is the least whole U with 3 × U × U at least 4 × (a×a + b×b + 3×g×g + h×h)."
+unfoldable pub sensorUncertainty : (a b g h : ℕ) → ℕ
+sensorUncertainty a b g h = rootUp (quotientUp (fourSquares a b g h) 3)
+
+-- the same sentence as a law, which one number obeys
+pub record LeastUncertainty (a b g h U : ℕ) : Type 0 where
+  pub enough : fourSquares a b g h ≤ 3 * (U * U)
+  pub least : (u : ℕ) → fourSquares a b g h ≤ 3 * (u * u) → U ≤ u
+
+pub least-uncertainty-unique : {a b g h U W : ℕ} → LeastUncertainty a b g h U → LeastUncertainty a b g h W → U ≡ W
+least-uncertainty-unique {U = U} {W = W} p q = le-antisymm (p .least W (q .enough)) (q .least U (p .enough))
+
+-- U is the least whole number that is enough
+pub uncertainty-law : (a b g h : ℕ) → LeastUncertainty a b g h (sensorUncertainty a b g h)
+unfolding sensorUncertainty
+uncertainty-law a b g h =
+    let u = quotientUp-law (fourSquares a b g h) 3 (omega arith) in
+    let r = rootUp-law (quotientUp (fourSquares a b g h) 3) in
+    record {
+      enough = omega (arith, u .not-below, r .enough);
+      least = λ k l. r .least k (quotientUp-least u (k * k) (omega arith));
+    }
+
+-- "Call them a, b, g and h." The steps in the annex's order, U last.
+unfoldable pub sensorSteps : Sensor → ℕ → Steps
+sensorSteps sensor C =
+    let a = grainsUp (temperatureOnSensitivity sensor C) in
+    let b = grainsUp (temperatureOnZero sensor) in
+    let g = grainsUp (calibration sensor) in
+    let h = grainsUp (parasiticLoads sensor) in
+    record { sensitivity = a; zero = b; calibration = g; parasitic = h; uncertainty = sensorUncertainty a b g h }
+
+-- A sensor's numbers keep the limits of "Component data", tags 6 and 7, that its uncertainty rests on.
+pub record InRange (sensor : Sensor) : Type 0 where
+  pub nominal : sensor .nominal ≤ 50000
+  pub sensitivity : sensor .sensitivity ≤ 10000
+  pub zero : sensor .zero ≤ 10000
+  pub calibration : sensor .calibration ≤ 10000
+  pub least-advancement : 1000 ≤ sensor .advancement
+  pub parasitic : sensor .parasitic ≤ 10000
+  pub share : sensor .share ≤ 1000
+  pub difference : sensor .difference ≤ 500
+  pub least-span : 10 ≤ sensor .span
+
+-- ---- the loss uncertainty, over any number of sensors
+
+-- a sensor that is read: the factor that takes its uncertainty to the wheel, and its torque
+pub record Reading : Type 0 where
+  pub factor : ℕ
+  pub sensor : Sensor
+  pub torque : ℕ
+
+-- "U of the input sensor times the ratio, rounded up to a grain". With the factor 1,000 it is U.
+unfoldable pub scaledUncertainty : (factor U : ℕ) → ℕ
+scaledUncertainty factor U = quotientUp (U * factor) 1000
+
+unfoldable pub readingUncertainty : Reading → ℕ
+readingUncertainty r = scaledUncertainty (r .factor) (sensorSteps (r .sensor) (r .torque) .uncertainty)
+
+abbrev pub sumOfSquares : List ℕ → ℕ
+sumOfSquares [] = 0
+sumOfSquares (v ∷ vs) = v * v + sumOfSquares vs
+
+-- "The loss uncertainty is the least whole number whose square is at least V×V + W×W."
+unfoldable pub lossUncertainty : List ℕ → ℕ
+lossUncertainty vs = rootUp (sumOfSquares vs)
+
+-- ---- the entry
+
+-- "Measured loss = input torque × ratio − output torque, exact."
+unfoldable pub measuredLoss : (ratio input output : ℕ) → Fraction
+measuredLoss ratio input output = whole input ⊗ (ratio over 1000) ⊖ whole output
+
+-- "measured loss under zero", which is refused by 9
+unfoldable pub lossIsUnderZero : (ratio input output : ℕ) → Bool
+lossIsUnderZero ratio input output = underZero (measuredLoss ratio input output)
+
+-- "The allowance is the larger of 5 % of that loss and 1 Nm at the wheel."
+unfoldable pub allowance : (ratio input output : ℕ) → Fraction
+allowance ratio input output = larger ((5 over 100) ⊗ measuredLoss ratio input output) (whole 100)
+
+-- a hundred grains are a hundredth of Nm
+abbrev pub fromGrains : ℕ → Fraction
+fromGrains T = T over 100
+
+-- "The entry is measured loss plus the part of the loss uncertainty above the allowance (zero if none), rounded up once to a hundredth."
+unfoldable pub entryOf : (ratio input output uncertainty : ℕ) → ℕ
+entryOf ratio input output uncertainty =
+    roundUp (measuredLoss ratio input output ⊕ partAbove (fromGrains uncertainty) (allowance ratio input output))
+
+-- an output sensor and its torque
+pub record Output : Type 0 where
+  pub sensor : Sensor
+  pub torque : ℕ
+
+-- a measured row. Output torque is the sum of the output sensors' torques.
+pub record Row : Type 0 where
+  pub ratio : ℕ
+  pub sensor : Sensor
+  pub input : ℕ
+  pub outputs : List Output
+
+abbrev pub sumOfTorques : List Output → ℕ
+sumOfTorques [] = 0
+sumOfTorques (o ∷ os) = o .torque + sumOfTorques os
+
+abbrev pub output : Row → ℕ
+output row = sumOfTorques (row .outputs)
+
+-- a row of kind 2, which has one output sensor
+abbrev pub measuredRow : (ratio : ℕ) (inputSensor outputSensor : Sensor) (input output : ℕ) → Row
+measuredRow ratio inputSensor outputSensor input output =
+    record { ratio = ratio; sensor = inputSensor; input = input; outputs = record { sensor = outputSensor; torque = output } ∷ [] }
+
+-- the input sensor with the ratio, each output sensor with 1
+abbrev pub outputReading : Output → Reading
+outputReading o = record { factor = 1000; sensor = o .sensor; torque = o .torque }
+
+unfoldable pub readings : Row → List Reading
+readings row = record { factor = row .ratio; sensor = row .sensor; torque = row .input } ∷ map outputReading (row .outputs)
+
+unfoldable pub rowUncertainty : Row → ℕ
+rowUncertainty row = lossUncertainty (map readingUncertainty (readings row))
+
+unfoldable pub measuredEntry : Row → ℕ
+measuredEntry row = entryOf (row .ratio) (row .input) (output row) (rowUncertainty row)
+
+-- What the accuracy of an entry rests on. An accepted row of kind 2 has it, with one output sensor.
+abbrev pub AllInRange : List Output → Type 0
+AllInRange [] = Unit {0}
+AllInRange (o ∷ os) = InRange (o .sensor) × AllInRange os
+
+pub record RowInRange (row : Row) : Type 0 where
+  pub ratio : row .ratio ≤ 20000
+  pub sensor : InRange (row .sensor)
+  pub outputs : AllInRange (row .outputs)
+  pub few : length (row .outputs) ≤ 3
+  pub loss : lossIsUnderZero (row .ratio) (row .input) (output row) ≡ false
+
+-- ---- what the code answers
+
+-- the code's measured loss is in half micronewton metres, 20,000 to a hundredth of Nm
+abbrev pub LossSays : (ratio input output : ℕ) → MeasuredLoss → Type 0
+LossSays ratio input output UnderZero = lossIsUnderZero ratio input output ≡ true
+LossSays ratio input output (Loss n) = (lossIsUnderZero ratio input output ≡ false) × Same (n over 20000) (measuredLoss ratio input output)

@@ -1,0 +1,11 @@
+pub mod RowChecks
+pub mod Torques
+pub mod Filling
+pub mod Joining
+pub mod SpeedParts
+pub mod Copying
+pub mod StandardRows
+pub mod Maps
+pub mod ReadData
+pub mod WholeBuild
+pub mod Valid

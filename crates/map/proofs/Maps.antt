@@ -1,0 +1,105 @@
+-- What is built of data that was read: too few lent entries, standard data, and measured data row by row. Assumes nothing.
+use Prim.Native.Nat.{ℕ, zero, suc, _+_, _-_, _*_, _≤_, _<_}
+use mathlib.Core.Path.{_≡_, refl, sym, ap, _∙_}
+use mathlib.Core.List.{List, _++_}
+use native.Mathlib.Omega.{arith}
+use borrow.Author.Tests.{le-leb, lt-leb}
+use lib.ListN.{length, getD, take, drop, length-take}
+use lib.Seq.{drop-drop}
+use Rattle.refusal.specs.Outcome.{Told, Outcome, accepted, refused, refuse, require, _>>=_, if_then_else_, placed, firstRefusal}
+use Rattle.refusal.proofs.First.{first-of}
+use Rattle.component.specs.Bytes.{numberOf, between}
+use Rattle.component.specs.Component.{Component, Kind, Rows, standard, measured}
+use Rattle.component.specs.declared.sensor.Sensor.{Sensor}
+use Rattle.loss.specs.Measured.{measuredEntry}
+use Rattle.grid.specs.Lists.{tabulate, joined}
+use Rattle.map.specs.Rows.{Torques, Bench, rowAt, rowOf, rowCheck}
+use Rattle.map.specs.Build.{points, torqueCount, entry, entryOfKind, check, checkOfKind, speedCheck, rowsCheck, speedEntries, entries, mapOf, LossMap}
+use Rattle.map.specs.Answers.{partCheck, partEntry, speedPartCheck, speedPartEntries, standardAt, standardRow}
+
+-- tests that are alike give the same first refusal
+first-same : (f g : ℕ → Outcome (Unit {0})) → ((i : ℕ) → f i ≡ g i) → (i count : ℕ) → firstRefusal f i count ≡ firstRefusal g i count
+unfolding firstRefusal
+first-same f g e i zero = refl
+first-same f g e i (suc count) = rw (e i, first-same f g e (suc i) count)
+
+tabulate-same : (f g : ℕ → ℕ) → ((i : ℕ) → f i ≡ g i) → (count : ℕ) → tabulate f count ≡ tabulate g count
+unfolding tabulate
+tabulate-same f g e zero = refl
+tabulate-same f g e (suc count) = rw (tabulate-same f g e count, e count)
+
+joined-alike : (f g : ℕ → List ℕ) → ((i : ℕ) → f i ≡ g i) → (count : ℕ) → joined f count ≡ joined g count
+unfolding joined
+joined-alike f g e zero = refl
+joined-alike f g e (suc count) = rw (joined-alike f g e count, e count)
+
+-- fewer entries are lent than there are points
+pub too-few : (c : Component) (lent : ℕ) → lent < points c → refuse 11 (points c) ≡ mapOf c lent
+unfolding mapOf
+too-few c lent h = rw (lt-leb _ _ h)
+
+-- otherwise the rows decide
+pub rows-refused : (c : Component) (lent : ℕ) (t : Told) → points c ≤ lent → refused t ≡ rowsCheck c → refused t ≡ mapOf c lent
+unfolding mapOf
+rows-refused c lent t h e = rw (le-leb _ _ h, ← e)
+
+pub rows-fine : (c : Component) (lent : ℕ) → points c ≤ lent → accepted tt ≡ rowsCheck c
+    → accepted (record { speeds = c .speeds; torques = c .torques; entries = entries c }) ≡ mapOf c lent
+unfolding mapOf
+rows-fine c lent h e = rw (le-leb _ _ h, ← e)
+
+-- ---- standard data
+module _ (line ratio : ℕ) (speeds torques : List ℕ) where
+  standardData : Component
+  standardData = record { kind = standard; line = line; ratio = ratio; speeds = speeds; torques = torques }
+
+  pub standard-checked : accepted tt ≡ rowsCheck (record { kind = standard; line = line; ratio = ratio; speeds = speeds; torques = torques })
+  unfolding rowsCheck speedCheck check checkOfKind
+  standard-checked = sym (first-of _ (length speeds) (λ i h. first-of _ (length torques) (λ j k. refl)))
+
+  pub standard-entries : joined (standardRow line ratio torques) (length speeds) ≡ entries (record { kind = standard; line = line; ratio = ratio; speeds = speeds; torques = torques })
+  unfolding entries speedEntries entry entryOfKind standardRow standardAt
+  standard-entries = refl
+
+-- ---- measured data: a row is the same in the whole of the rows and in the part that starts with its speed
+between-part : (s : List ℕ) (a x y : ℕ) → between (drop a s) x y ≡ between s (a + x) (a + y)
+between-part s a x y = let z : a + y - (a + x) ≡ y - x = omega arith in rw (drop-drop x a s, z)
+
+row-part : (bytes : List ℕ) (first j : ℕ) → rowAt (drop (8 * first) bytes) j ≡ rowAt bytes (first + j)
+unfolding rowAt
+row-part bytes first j =
+    let a : 8 * first + 8 * j ≡ 8 * (first + j) = omega arith in
+    let b : 8 * first + (8 * j + 4) ≡ 8 * (first + j) + 4 = omega arith in
+    let d : 8 * first + (8 * j + 8) ≡ 8 * (first + j) + 8 = omega arith in
+    rw (between-part bytes (8 * first) (8 * j) (8 * j + 4), between-part bytes (8 * first) (8 * j + 4) (8 * j + 8), a, b, d)
+
+module _ (line ratio : ℕ) (speeds torques : List ℕ) (input output : Sensor) (rows : Rows) where
+  bench : Bench
+  bench = record { ratio = ratio; input = input; output = output }
+
+  n : ℕ
+  n = length torques
+
+  part-check : (i j : ℕ)
+      → partCheck (record { ratio = ratio; input = input; output = output }) torques (drop (8 * (i * length torques)) (rows .bytes)) (rows .start + 8 * (i * length torques)) j
+      ≡ checkOfKind (record { kind = measured input output rows; line = line; ratio = ratio; speeds = speeds; torques = torques }) i j (measured input output rows)
+  unfolding partCheck checkOfKind
+  part-check i j =
+      let z : rows .start + 8 * (i * length torques) + 8 * j ≡ rows .start + 8 * (i * length torques + j) = omega arith in
+      rw (row-part (rows .bytes) (i * length torques) j, z)
+
+  pub measured-checked : firstRefusal (speedPartCheck (record { ratio = ratio; input = input; output = output }) torques (rows .bytes) (rows .start)) 0 (length speeds)
+      ≡ rowsCheck (record { kind = measured input output rows; line = line; ratio = ratio; speeds = speeds; torques = torques })
+  unfolding rowsCheck speedCheck check speedPartCheck
+  measured-checked = first-same _ _ (λ i. first-same _ _ (λ j. part-check i j) 0 (length torques)) 0 (length speeds)
+
+  part-entry : (i j : ℕ)
+      → partEntry (record { ratio = ratio; input = input; output = output }) (drop (8 * (i * length torques)) (rows .bytes)) j
+      ≡ entryOfKind (record { kind = measured input output rows; line = line; ratio = ratio; speeds = speeds; torques = torques }) i j (measured input output rows)
+  unfolding partEntry entryOfKind
+  part-entry i j = ap (λ (t : Torques). measuredEntry (rowOf (record { ratio = ratio; input = input; output = output }) t)) (row-part (rows .bytes) (i * length torques) j)
+
+  pub measured-entries : joined (speedPartEntries (record { ratio = ratio; input = input; output = output }) torques (rows .bytes)) (length speeds)
+      ≡ entries (record { kind = measured input output rows; line = line; ratio = ratio; speeds = speeds; torques = torques })
+  unfolding entries speedEntries entry speedPartEntries
+  measured-entries = joined-alike _ _ (λ i. tabulate-same _ _ (λ j. part-entry i j) (length torques)) (length speeds)

@@ -1,0 +1,53 @@
+use mathlib.Core.Path.{refl}
+use denote.Ref.{now}
+use Rattle.map.specs.Answers.{benchOf, speedPartEntries}
+use Rattle.map.proofs.SpeedParts.{speed-size}
+use Rattle.map.proofs.Copying.{own-stretch}
+use borrow.Author.Needs.{needs}
+use Rattle.map.proofs.build_measured.Statement.{statement}
+use Rattle.map.proofs.build_measured.Tie as tie
+
+fill-rows-requires : tie.Need-fill-rows-requires
+fill-rows-requires c κs = search needs
+
+enum-known-x : tie.Need-enum-known-x
+enum-known-x c = search needs
+
+enum-told : tie.Need-enum-told
+enum-told c = search needs
+
+copy-rows-requires : tie.Need-copy-rows-requires
+copy-rows-requires c κs = search needs
+
+same-length : tie.Need-same-length
+same-length c = search needs
+
+returns : tie.Need-returns
+returns c = (rw (c .before .x .given .1) at (c .before .before .before .before .before .fill-rows .ensures .0), refl)
+
+same-length-2 : tie.Need-same-length-2
+same-length-2 c = search needs
+
+same-length-3 : tie.Need-same-length-3
+same-length-3 c = search needs
+
+returns-2 : tie.Need-returns-2
+returns-2 c = (
+  rw (c .before .before .before .before .before .enum-told .given .1) at (c .before .before .before .before .before .before .before .before .before .fill-rows .ensures .0),
+  rw (own-stretch (speedPartEntries (benchOf (c .before .before .before .before .before .before .before .before .before .before .before .before .before .before .before .args .bench)) (now (c .before .before .before .before .before .before .before .before .before .before .before .before .before .before .before .args .torques)) (now (c .before .before .before .before .before .before .before .before .before .before .before .before .before .before .before .args .rows))) _ _ _ _ (speed-size _ _ _ _) (rw (c .before .before .before .before .before .enum-told .given .1) at (c .before .before .before .before .before .before .before .before .before .fill-rows .ensures .1))) at
+      (c .before .before .copy-rows .ensures),
+)
+
+pub build-measured-spec : {M : Type 1} → statement M
+build-measured-spec =
+    tie.close
+    (tie.spec
+    fill-rows-requires
+    enum-known-x
+    enum-told
+    copy-rows-requires
+    same-length
+    returns
+    same-length-2
+    same-length-3
+    returns-2)

@@ -1,0 +1,120 @@
+use Prim.Native.Nat.{_+_, _-_, _*_, _≤_}
+use mathlib.Core.Path.{_≡_, refl, sym}
+use native.Mathlib.Omega.{arith}
+use native.Mathlib.Nat.{zero-mul, suc-mul}
+use native.Mathlib.Numerals.{add-one}
+use denote.Ref.{now}
+use lib.ListN.{length, length-drop}
+use borrow.Author.Needs.{needs}
+use Rattle.refusal.specs.Outcome.{accepted}
+use Rattle.map.specs.Answers.{stretch}
+use Rattle.map.proofs.Joining.{Joining, none-joined, room, stretch-room, one-joined, all-joined, tail-lent}
+use Rattle.map.proofs.Copying.{source-room, stretch-size, stretch-is}
+use Rattle.map.proofs.copy_rows.Statement.{statement}
+use Rattle.map.proofs.copy_rows.Tie as tie
+
+abbrev Inv-loop : tie.InvT-loop
+Inv-loop from step size speeds entries₀ source₀ first₀ speed₀ entries source first speed =
+    (source ≡ speed * step) × Joining (λ i. accepted tt) (stretch from step size) size speeds entries₀ entries first speed
+
+abbrev μ-loop : tie.MeasureT-loop
+μ-loop from step size speeds entries₀ source₀ first₀ speed₀ entries source first speed = speeds - speed
+
+-- within the loop: this speed's row lies within what is given, and its entries within all entries
+within : (c : tie.In-loop Inv-loop μ-loop) →
+    let start = c .before .before .before .before in
+    (c .before .loop .source + start .args .size ≤ length (now (start .args .from))) × (c .before .loop .first + start .args .size ≤ length (c .before .loop .entries)) × (c .before .loop .source + start .args .step ≤ start .args .speeds * start .args .step)
+within c =
+    let start = c .before .before .before .before in
+    let inv = c .before .loop .inv in
+    let h = c .loop-test .taken in
+    let r = room _ _ _ _ (stretch-size _ _ _ _ (start .pre .0)) _ _ _ _ (inv .1) h in
+    (rw (inv .0) (source-room _ _ _ _ _ h (start .pre .0)), omega (arith, r, start .pre .1, inv .1 .long), rw (inv .0) (stretch-room _ _ _ h))
+
+loop-holds : tie.Need-loop-holds Inv-loop μ-loop
+loop-holds c = (sym (zero-mul _), none-joined _ _ _ _ (stretch-size _ _ _ _ (c .before .before .pre .0)) _)
+
+add-end : tie.Need-add-end Inv-loop μ-loop
+add-end c = omega (arith, within c)
+
+mul-copy-row : tie.Need-mul-copy-row Inv-loop μ-loop
+mul-copy-row c = omega (arith, within c)
+
+sub-copy-row : tie.Need-sub-copy-row Inv-loop μ-loop
+sub-copy-row c = omega (arith, within c)
+
+part-copy-row-start : tie.Need-part-copy-row-start Inv-loop μ-loop
+part-copy-row-start c = omega (arith, within c)
+
+part-copy-row-end : tie.Need-part-copy-row-end Inv-loop μ-loop
+part-copy-row-end c = omega (arith, within c)
+
+mul-copy-row-2 : tie.Need-mul-copy-row-2 Inv-loop μ-loop
+mul-copy-row-2 c = omega (arith, within (c .before))
+
+sub-copy-row-2 : tie.Need-sub-copy-row-2 Inv-loop μ-loop
+sub-copy-row-2 c = omega (arith, within (c .before))
+
+part-copy-row-start-2 : tie.Need-part-copy-row-start-2 Inv-loop μ-loop
+part-copy-row-start-2 c = omega (arith, within (c .before))
+
+part-copy-row-end-2 : tie.Need-part-copy-row-end-2 Inv-loop μ-loop
+part-copy-row-end-2 c = omega (arith, within (c .before))
+
+copy-row-requires : tie.Need-copy-row-requires Inv-loop μ-loop
+copy-row-requires c κs =
+    let w = within (c .before .before) in
+    rw (stretch-is _ _ _ _ _ (c .before .before .before .loop .inv .0), stretch-size _ _ _ _ (c .before .before .before .before .before .before .pre .0) _ (c .before .before .loop-test .taken), tail-lent (c .before .before .before .loop .first) (c .before .before .before .loop .entries), length-drop)
+    (omega (arith, w))
+
+add-source : tie.Need-add-source Inv-loop μ-loop
+add-source c = omega (arith, within (c .before .before .before .before .before))
+
+add-first : tie.Need-add-first Inv-loop μ-loop
+add-first c = omega (arith, within (c .before .before .before .before .before))
+
+add-speed : tie.Need-add-speed Inv-loop μ-loop
+add-speed c = search needs
+
+loop-less : tie.Need-loop-less Inv-loop μ-loop
+loop-less c = search needs
+
+loop-again : tie.Need-loop-again Inv-loop μ-loop
+loop-again c =
+    let inv = c .before .before .before .before .before .before .loop .inv in (
+      rw (add-one, suc-mul, inv .0),
+      one-joined _ _ _ _ (stretch-size _ _ _ _ (c .before .before .before .before .before .before .before .before .before .pre .0)) _ _ _ _ (inv .1) (c .before .before .before .before .before .loop-test .taken) refl _
+          (rw (stretch-is _ _ _ _ _ (inv .0)) at (c .before .before .copy-row .ensures))
+          (c .before .entries .given .1),
+    )
+
+same-length : tie.Need-same-length Inv-loop μ-loop
+same-length c = search needs
+
+returns : tie.Need-returns Inv-loop μ-loop
+returns c = all-joined _ _ _ _ (stretch-size _ _ _ _ (c .before .before .before .before .pre .0)) _ _ _ _ (c .before .loop .inv .1) (c .loop-test .left)
+
+pub copy-rows-spec : {M : Type 1} → statement M
+copy-rows-spec =
+    tie.close
+    (tie.spec
+    Inv-loop
+    μ-loop
+    loop-holds
+    add-end
+    mul-copy-row
+    sub-copy-row
+    part-copy-row-start
+    part-copy-row-end
+    mul-copy-row-2
+    sub-copy-row-2
+    part-copy-row-start-2
+    part-copy-row-end-2
+    copy-row-requires
+    add-source
+    add-first
+    add-speed
+    loop-less
+    loop-again
+    same-length
+    returns)

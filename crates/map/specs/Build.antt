@@ -1,0 +1,79 @@
+-- Document 01, "Refusals" and "Code places and language forms": the build of a map. "Fields in their order, then 12, then 11, then rows in order".
+use Prim.Native.Nat.{ℕ, _+_, _*_}
+use mathlib.Core.List.{List, _++_}
+use lib.Dec.{leb}
+use lib.ListN.{length, getD, drop}
+use Rattle.refusal.specs.Outcome.{Outcome, accepted, refused, _>>=_, require, placed, firstRefusal}
+use Rattle.component.specs.Component.{Component, Kind, standard, measured, component}
+use Rattle.loss.specs.Standard.{standardEntry}
+use Rattle.loss.specs.Measured.{measuredEntry}
+use Rattle.grid.specs.Lists.{tabulate, joined}
+use Rattle.map.specs.Rows.{Bench, rowAt, rowOf, rowCheck}
+
+-- how many torques there are for each speed, and how many points in all
+abbrev pub torqueCount : Component → ℕ
+torqueCount c = length (c .torques)
+
+abbrev pub points : Component → ℕ
+points c = length (c .speeds) * torqueCount c
+
+-- a point's index: "for each speed, for each torque within it"
+abbrev pub pointIndex : Component → ℕ → ℕ → ℕ
+pointIndex c speed torque = speed * torqueCount c + torque
+
+-- the entry of a point, by the indices of its speed and its torque
+unfoldable pub entryOfKind : Component → ℕ → ℕ → Kind → ℕ
+entryOfKind c speed torque standard = standardEntry (c .line) (c .ratio) (getD (c .torques) torque 0)
+entryOfKind c speed torque (measured input output rows) =
+    measuredEntry (rowOf (record { ratio = c .ratio; input = input; output = output }) (rowAt (rows .bytes) (pointIndex c speed torque)))
+
+unfoldable pub entry : Component → ℕ → ℕ → ℕ
+entry c speed torque = entryOfKind c speed torque (c .kind)
+
+-- the refusal of a point's row, at its place in the data; standard data has no rows
+unfoldable pub checkOfKind : Component → ℕ → ℕ → Kind → Outcome (Unit {0})
+checkOfKind c speed torque standard = accepted tt
+checkOfKind c speed torque (measured input output rows) =
+    placed (λ place. rows .start + 8 * pointIndex c speed torque + place)
+    (rowCheck (record { ratio = c .ratio; input = input; output = output }) (getD (c .torques) torque 0) (rowAt (rows .bytes) (pointIndex c speed torque)))
+
+unfoldable pub check : Component → ℕ → ℕ → Outcome (Unit {0})
+check c speed torque = checkOfKind c speed torque (c .kind)
+
+-- "rows in order"
+unfoldable pub speedCheck : Component → ℕ → Outcome (Unit {0})
+speedCheck c speed = firstRefusal (check c speed) 0 (torqueCount c)
+
+unfoldable pub rowsCheck : Component → Outcome (Unit {0})
+rowsCheck c = firstRefusal (speedCheck c) 0 (length (c .speeds))
+
+-- "each speed's row in its own stretch of the lent entries, torques within it"
+unfoldable pub speedEntries : Component → ℕ → List ℕ
+speedEntries c speed = tabulate (entry c speed) (torqueCount c)
+
+unfoldable pub entries : Component → List ℕ
+entries c = joined (speedEntries c) (length (c .speeds))
+
+-- a map that was built
+pub record LossMap : Type 0 where
+  pub speeds : List ℕ
+  pub torques : List ℕ
+  pub entries : List ℕ
+
+-- what is built of data that was read, where so many entries are lent: "then 11, then rows in order"
+unfoldable pub mapOf : Component → ℕ → Outcome LossMap
+mapOf c lent = do
+  _ ← require (leb (points c) lent) 11 (points c)
+  _ ← rowsCheck c
+  accepted (record { speeds = c .speeds; torques = c .torques; entries = entries c })
+
+-- what is built of component data
+unfoldable pub build : List ℕ → ℕ → Outcome LossMap
+build bytes lent = do
+  c ← component bytes
+  mapOf c lent
+
+-- "A refused build writes no entry. An accepted one .. touches nothing beyond the last."
+abbrev pub content : Outcome LossMap → List ℕ → List ℕ
+content (accepted m) lent = m .entries ++ drop (length (m .entries)) lent
+content (refused t) lent = lent

@@ -1,0 +1,89 @@
+-- The report of a build: the refusal's line, or the listing of the map that it left. Assumes nothing.
+use Prim.Native.Nat.{ℕ, _+_, _*_, _≤_, _<_}
+use mathlib.Core.Path.{_≡_, refl, sym, ap, _∙_}
+use mathlib.Core.List.{List, _++_}
+use native.Mathlib.Omega.{arith}
+use lib.ListN.{length, getD, take}
+use lib.Seq.{getD-take}
+use Rattle.refusal.specs.Outcome.{Outcome, accepted, refused}
+use Rattle.refusal.specs.Table.{told}
+use Rattle.refusal.specs.declared.Refusal.{Refusal}
+use Rattle.grid.specs.Lists.{joined}
+use Rattle.grid.specs.Map.{speedsOf, torquesOf, validMap}
+use Rattle.grid.specs.Parts.{gridOf}
+use Rattle.grid.specs.declared.Grid.{Grid}
+use native.Mathlib.Nat.{mul-le-mul}
+use Rattle.component.specs.Component.{Component, component}
+use Rattle.component.specs.Answers.{CountsWithin}
+use Rattle.layout.specs.Rules.{AreBytes}
+use Rattle.layout.proofs.Theorems.{sound}
+use Rattle.map.specs.Build.{LossMap, points, build, content}
+use Rattle.map.specs.Answers.{Builds}
+use Rattle.map.specs.declared.Built.{Built}
+use Rattle.map.specs.declared.Answer.the-variants.{Accepted, Refused}
+use Rattle.map.proofs.Joining.{joined-same, stretch-room}
+use Rattle.map.proofs.Valid.{theMap, is-built, is-map}
+use Rattle.listing.specs.Listing.{listing, rows, row, rowAt, lineAt, line, refusalLine, fitted, listed}
+use Rattle.listing.specs.Answers.{listingAnswerOf, contentOf}
+use Rattle.listing.specs.declared.ListingAnswer.{ListingAnswer}
+use Rattle.listing.proofs.Fitted.{listed-map, fitted-whole}
+use Rattle.listing.proofs.Lengths.{listing-most}
+use Rattle.report.specs.Report.{reportOf, report, Reports}
+
+-- ---- the listing looks at the first count numbers and entries alone
+module _ (speeds torques entries : List ℕ) (m n : ℕ) where
+  row-same : (i : ℕ) → i < m → rowAt speeds torques n entries i ≡ rowAt (take m speeds) (take n torques) n (take (m * n) entries) i
+  unfolding row
+  row-same i h =
+      rw (getD-take m speeds i 0 h)
+      (joined-same _ _ n (λ j l.
+      let k : i * n + j < m * n = omega (arith, stretch-room i m n h) in
+      rw (getD-take n torques j 0 l, getD-take (m * n) entries (i * n + j) 0 k)))
+
+  rows-same : rows speeds m torques n entries ≡ rows (take m speeds) m (take n torques) n (take (m * n) entries)
+  unfolding rows
+  rows-same = joined-same _ _ m row-same
+
+pub listing-same : (grid : Grid) (entries : List ℕ) → CountsWithin grid
+    → listing grid entries
+    ≡ listing (gridOf (speedsOf (grid .speeds)) (length (speedsOf (grid .speeds))) (torquesOf (grid .torques)) (length (torquesOf (grid .torques)))) (take (grid .speeds .count * grid .torques .count) entries)
+unfolding listing
+listing-same grid entries w =
+    rw (w .speeds-length, w .torques-length, rows-same (grid .speeds .numbers) (grid .torques .numbers) entries (grid .speeds .count) (grid .torques .count))
+
+-- ---- what is reported
+module _ (bytes before after textBefore textAfter : List ℕ) (built : Built) (b : Builds bytes before after built) (r : ListingAnswer) where
+  pub refusal-reported : (x : Refusal) → built .answer ≡ Refused x
+      → (listingAnswerOf r ≡ fitted (refusalLine (told x)) (length textBefore)) × ((textAfter ≡ contentOf (listingAnswerOf r) (refusalLine (told x)) textBefore) × (length (refusalLine (told x)) ≤ 53))
+      → Reports bytes before after textBefore textAfter r
+  unfolding report reportOf
+  refusal-reported x e h =
+      let q : refused (told x) ≡ build bytes (length before) = rw e at (b .outcome) in
+      record { answer = rw (← q) (h .0); text = rw (← q) (h .1 .0); entries = b .written; short = rw (← q) (omega (arith, h .1 .1)) }
+
+  pub map-reported : AreBytes bytes → built .answer ≡ Accepted
+      → (listingAnswerOf r ≡ listed (built .grid) after (length textBefore)) × (textAfter ≡ contentOf (listingAnswerOf r) (listing (built .grid) after) textBefore)
+      → Reports bytes before after textBefore textAfter r
+  unfolding report reportOf
+  map-reported areBytes e h =
+      let q = is-built bytes before after areBytes built b e in
+      let v = is-map bytes before after areBytes built b e in
+      let l = listing-same (built .grid) after (b .counts) in
+      record {
+        answer = h .0 ∙ sym (listed-map (built .grid) after (length textBefore) v) ∙ rw (← q, l) refl;
+        text = rw (← q, ← l) (h .1);
+        entries = b .written;
+        short = rw (← q, ← l) (omega (arith, listing-most (built .grid) after v));
+      }
+
+-- ---- with room for every report, the report is written
+pub always-whole : (bytes before after textBefore textAfter : List ℕ) (r : ListingAnswer) → Reports bytes before after textBefore textAfter r → length textBefore ≡ 65536
+    → listingAnswerOf r ≡ accepted (length (report bytes (length before)))
+always-whole bytes before after textBefore textAfter r h e =
+    h .answer ∙ sym (fitted-whole (report bytes (length before)) (length textBefore) (length (report bytes (length before))) refl (omega (arith, h .short)))
+
+-- 2,048 entries are enough for every map
+pub enough-entries : (bytes : List ℕ) (c : Component) → AreBytes bytes → component bytes ≡ accepted c → points c ≤ 2048
+enough-entries bytes c areBytes e =
+    let rules = sound bytes c areBytes e .0 in
+    mul-le-mul (rules .speeds .at-most) (rules .torques .at-most)
