@@ -9,3 +9,4 @@ pub mod Maps
 pub mod ReadData
 pub mod WholeBuild
 pub mod Valid
+pub mod Acceptance

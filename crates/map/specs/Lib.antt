@@ -1,3 +1,4 @@
 pub mod Rows
 pub mod Build
 pub mod Answers
+pub mod Acceptance

@@ -1,0 +1,96 @@
+-- A build is accepted exactly when no refusal applies: 1 to 6 and 12 as in the reading of the data, 11, and 7 to 10 said of each row.
+use Prim.Native.Nat.{ℕ, _+_, _*_, _≤_, _<_}
+use mathlib.Core.Path.{_≡_}
+use mathlib.Core.Bool.{false, true}
+use mathlib.Core.List.{List}
+use mathlib.Core.Logic.{_⊎_}
+use lib.ListN.{length, getD}
+use Rattle.refusal.specs.Outcome.{Told, accepted, refused}
+use Rattle.component.specs.Component.{Component, Kind, standard, measured, component}
+use Rattle.layout.specs.Layout.{layout}
+use Rattle.layout.specs.Rules.{AreBytes, Rules}
+use Rattle.layout.specs.Faults.{refusal}
+use Rattle.layout.specs.Acceptance.{Fault}
+use Rattle.loss.specs.Measured.{lossIsUnderZero, measuredEntry}
+use Rattle.map.specs.Rows.{Torques, Bench, rowAt, rowOf}
+use Rattle.map.specs.Build.{LossMap, points, torqueCount, pointIndex, entries, build}
+
+-- ---- one row
+-- the rules that a row keeps: none of 7 to 10 applies
+pub record RowRules (bench : Bench) (torque : ℕ) (t : Torques) : Type 0 where
+  pub input : t .input ≤ 100 * bench .input .nominal
+  pub output : t .output ≤ 100 * bench .output .nominal
+  pub not-over : t .output ≤ 100 * torque + 500
+  pub not-under : 100 * torque ≤ t .output + 500
+  pub loss : lossIsUnderZero (bench .ratio) (t .input) (t .output) ≡ false
+  pub small : measuredEntry (rowOf bench t) ≤ 10000000
+
+-- the first condition that a row meets; its first byte is at a place
+pub data RowFault (bench : Bench) (torque : ℕ) (t : Torques) (place : ℕ) (told : Told) : Type 0 where
+  -- 7: "measured torque above its sensor's N", input
+  input-above : 100 * bench .input .nominal < t .input → told ≡ refusal 7 place → RowFault bench torque t place told
+  -- 7, output
+  output-above : t .input ≤ 100 * bench .input .nominal → 100 * bench .output .nominal < t .output → told ≡ refusal 7 (place + 4) → RowFault bench torque t place told
+  -- 8: "output torque over 5.00 Nm from its axis torque"
+  off-axis : t .input ≤ 100 * bench .input .nominal → t .output ≤ 100 * bench .output .nominal
+      → (100 * torque + 500 < t .output) ⊎ (t .output + 500 < 100 * torque) → told ≡ refusal 8 (place + 4) → RowFault bench torque t place told
+  -- 9: "measured loss under zero"
+  negative : t .input ≤ 100 * bench .input .nominal → t .output ≤ 100 * bench .output .nominal → t .output ≤ 100 * torque + 500 → 100 * torque ≤ t .output + 500
+      → lossIsUnderZero (bench .ratio) (t .input) (t .output) ≡ true → told ≡ refusal 9 place → RowFault bench torque t place told
+  -- 10: "entry above 10,000,000 hundredths"
+  too-large : t .input ≤ 100 * bench .input .nominal → t .output ≤ 100 * bench .output .nominal → t .output ≤ 100 * torque + 500 → 100 * torque ≤ t .output + 500
+      → lossIsUnderZero (bench .ratio) (t .input) (t .output) ≡ false → 10000000 < measuredEntry (rowOf bench t) → told ≡ refusal 10 place → RowFault bench torque t place told
+
+-- ---- the row of a point; standard data has none
+abbrev pub PointRules : Component → (speed torque : ℕ) → Kind → Type 0
+PointRules c speed torque standard = Unit {0}
+PointRules c speed torque (measured input output rows) =
+    RowRules (record { ratio = c .ratio; input = input; output = output }) (getD (c .torques) torque 0) (rowAt (rows .bytes) (pointIndex c speed torque))
+
+abbrev pub PointFault : Component → (speed torque : ℕ) → Kind → Told → Type 0
+PointFault c speed torque standard told = ⊥
+PointFault c speed torque (measured input output rows) told =
+    RowFault (record { ratio = c .ratio; input = input; output = output }) (getD (c .torques) torque 0) (rowAt (rows .bytes) (pointIndex c speed torque))
+    (rows .start + 8 * pointIndex c speed torque) told
+
+-- every row keeps its rules
+abbrev pub AllRowsRight : Component → Type 0
+AllRowsRight c = (i j : ℕ) → i < length (c .speeds) → j < torqueCount c → PointRules c i j (c .kind)
+
+-- the first row that does not, in the order of the rows: those of earlier speeds, and of earlier torques of its speed, keep their rules
+pub record FirstWrongRow (c : Component) (told : Told) : Type 0 where
+  pub speed : ℕ
+  pub torque : ℕ
+  pub speed-in : speed < length (c .speeds)
+  pub torque-in : torque < torqueCount c
+  pub earlier-speeds : (i j : ℕ) → i < speed → j < torqueCount c → PointRules c i j (c .kind)
+  pub earlier-torques : (j : ℕ) → j < torque → PointRules c speed j (c .kind)
+  pub wrong : PointFault c speed torque (c .kind) told
+
+-- ---- the statements
+-- the data's numbers keep every rule, its fields laid out again are its bytes, there is room, and every row keeps its rules
+pub record Acceptable (bytes : List ℕ) (lent : ℕ) (c : Component) : Type 0 where
+  pub rules : Rules c
+  pub laid-out : layout c ≡ bytes
+  pub room : points c ≤ lent
+  pub rows : AllRowsRight c
+
+abbrev pub mapOfNumbers : Component → LossMap
+mapOfNumbers c = record { speeds = c .speeds; torques = c .torques; entries = entries c }
+
+-- what is accepted is acceptable, and its map is that of its numbers
+abbrev pub Sound : Type 0
+Sound = (bytes : List ℕ) (lent : ℕ) (m : LossMap) → AreBytes bytes → build bytes lent ≡ accepted m → (c : Component) × Acceptable bytes lent c × (m ≡ mapOfNumbers c)
+
+-- what is acceptable is accepted
+abbrev pub Complete : Type 0
+Complete = (bytes : List ℕ) (lent : ℕ) (c : Component) → Acceptable bytes lent c → build bytes lent ≡ accepted (mapOfNumbers c)
+
+-- a refusal: of the reading, 11 with the count needed, or of the first row that does not keep its rules
+pub data Reason (bytes : List ℕ) (lent : ℕ) (told : Told) : Type 0 where
+  in-data : Fault bytes told → Reason bytes lent told
+  too-few : (c : Component) → Rules c → layout c ≡ bytes → lent < points c → told ≡ refusal 11 (points c) → Reason bytes lent told
+  in-row : (c : Component) → Rules c → layout c ≡ bytes → points c ≤ lent → FirstWrongRow c told → Reason bytes lent told
+
+abbrev pub Refused : Type 0
+Refused = (bytes : List ℕ) (lent : ℕ) (told : Told) → AreBytes bytes → build bytes lent ≡ refused told → Reason bytes lent told
