@@ -7,12 +7,16 @@ use lib.Dec.{eqb}
 use lib.ListN.{length, take}
 use Rattle.refusal.specs.Outcome.{Outcome, accepted, refused, refuse, if_then_else_}
 use Rattle.refusal.specs.Table.{told}
+use Rattle.grid.specs.Map.{speedsOf, torquesOf}
+use Rattle.grid.specs.declared.Grid.{Grid}
+use Rattle.component.specs.Field.{Head, Field, exactly, numbers}
+use Rattle.component.specs.Component.{Run, Axle as AxleSays, Axes as AxesSay, Rows, Kind, standard, measured, Component as ComponentSays, component}
+use Rattle.component.specs.Bytes.{between}
 use Rattle.component.specs.declared.sensor.Sensor.{Sensor}
 use Rattle.component.specs.declared.sensor.SensorFault.{SensorFault}
 use Rattle.component.specs.declared.sensor.SensorFault.the-variants.{Nothing, OutOfRange}
 use Rattle.component.specs.declared.cursor.SensorRead.{SensorRead}
 use Rattle.component.specs.declared.cursor.SensorRead.the-variants.{Read as SensorIs, Refused as SensorRefused}
-use Rattle.component.specs.Field.{Head, Field, exactly, numbers}
 use Rattle.component.specs.declared.cursor.Allowed.{Allowed}
 use Rattle.component.specs.declared.cursor.Allowed.the-variants.{Exactly, Numbers}
 use Rattle.component.specs.declared.cursor.FieldRead.{FieldRead}
@@ -25,7 +29,6 @@ use Rattle.component.specs.declared.cursor.AxisRead.{AxisRead}
 use Rattle.component.specs.declared.cursor.AxisRead.the-variants.{Read as AxisIs, Refused as AxisRefused}
 use Rattle.component.specs.declared.cursor.SensorFieldRead.{SensorFieldRead}
 use Rattle.component.specs.declared.cursor.SensorFieldRead.the-variants.{Read as SensorFieldIs, Refused as SensorFieldRefused}
-use Rattle.component.specs.Component.{Run, Axle as AxleSays, Axes as AxesSay, Rows, Kind, standard, measured, Component as ComponentSays}
 use Rattle.component.specs.declared.AxleRead.{AxleRead}
 use Rattle.component.specs.declared.AxleRead.the-variants.{Read as AxleIs, Refused as AxleRefused}
 use Rattle.component.specs.declared.AxesAnswer.{AxesAnswer}
@@ -40,10 +43,6 @@ use Rattle.component.specs.declared.Component.{Component}
 use Rattle.component.specs.declared.Answer.{Answer}
 use Rattle.component.specs.declared.Answer.the-variants.{Accepted, Refused}
 use Rattle.component.specs.declared.Reading.{Reading}
-use Rattle.component.specs.Component.{component}
-use Rattle.component.specs.Bytes.{between}
-use Rattle.grid.specs.declared.Grid.{Grid}
-use Rattle.grid.specs.Map.{speedsOf, torquesOf}
 
 -- which lengths are allowed
 abbrev pub allowedOf : Allowed → ℕ → Bool

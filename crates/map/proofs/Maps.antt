@@ -50,9 +50,6 @@ rows-fine c lent h e = rw (le-leb _ _ h, ← e)
 
 -- ---- standard data
 module _ (line ratio : ℕ) (speeds torques : List ℕ) where
-  standardData : Component
-  standardData = record { kind = standard; line = line; ratio = ratio; speeds = speeds; torques = torques }
-
   pub standard-checked : accepted tt ≡ rowsCheck (record { kind = standard; line = line; ratio = ratio; speeds = speeds; torques = torques })
   unfolding rowsCheck speedCheck check checkOfKind
   standard-checked = sym (first-of _ (length speeds) (λ i h. first-of _ (length torques) (λ j k. refl)))
@@ -74,12 +71,6 @@ row-part bytes first j =
     rw (between-part bytes (8 * first) (8 * j) (8 * j + 4), between-part bytes (8 * first) (8 * j + 4) (8 * j + 8), a, b, d)
 
 module _ (line ratio : ℕ) (speeds torques : List ℕ) (input output : Sensor) (rows : Rows) where
-  bench : Bench
-  bench = record { ratio = ratio; input = input; output = output }
-
-  n : ℕ
-  n = length torques
-
   part-check : (i j : ℕ)
       → partCheck (record { ratio = ratio; input = input; output = output }) torques (drop (8 * (i * length torques)) (rows .bytes)) (rows .start + 8 * (i * length torques)) j
       ≡ checkOfKind (record { kind = measured input output rows; line = line; ratio = ratio; speeds = speeds; torques = torques }) i j (measured input output rows)

@@ -144,9 +144,6 @@ module _ (bytes : List ℕ) (c : Component) (r : ReadAs bytes c) (torques : List
         bench-is : benchOf b ≡ record { ratio = c .ratio; input = c .input; output = c .output }
         bench-is = rw (h .0, h .1, h .3)
 
-        bytesOf : List ℕ
-        bytesOf = between bytes (c .rows .start) (c .rows .end)
-
         checked : firstRefusal (speedPartCheck (benchOf b) torques (between bytes (c .rows .start) (c .rows .end)) (c .rows .start)) 0 (c .grid .speeds .count) ≡ rowsCheck (componentOf bytes c)
         checked =
             rw (measured-says, ← measured-checked (c .line) (c .ratio) (speedsOf (c .grid .speeds)) (torquesOf (c .grid .torques)) (c .input) (c .output) (rowsOf bytes (c .rows)), r .counts .speeds-length, e, bench-is)

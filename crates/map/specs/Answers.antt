@@ -6,13 +6,13 @@ use lib.ListN.{length, getD, take, drop}
 use Rattle.refusal.specs.Outcome.{Outcome, accepted, refused, _>>=_, placed, firstRefusal}
 use Rattle.refusal.specs.Table.{told}
 use Rattle.grid.specs.Map.{speedsOf, torquesOf}
+use Rattle.grid.specs.Lists.{tabulate}
 use Rattle.grid.specs.declared.Grid.{Grid}
 use Rattle.component.specs.Component.{component}
 use Rattle.component.specs.Answers.{CountsWithin, Within, componentOf}
 use Rattle.component.specs.declared.Component.{Component}
 use Rattle.loss.specs.Standard.{standardEntry}
 use Rattle.loss.specs.Measured.{InRange, fixedParts, measuredEntry}
-use Rattle.grid.specs.Lists.{tabulate}
 use Rattle.map.specs.Rows.{Torques, Bench, rowAt, rowOf, rowCheck}
 use Rattle.map.specs.Build.{LossMap, mapOf, build, content}
 use Rattle.map.specs.declared.SensorParts.{SensorParts}

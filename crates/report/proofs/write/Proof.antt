@@ -2,53 +2,37 @@ use Rattle.report.proofs.Laws.{refusal-reported, map-reported}
 use borrow.Author.Needs.{needs}
 use Rattle.report.proofs.write.Statement.{statement}
 use Rattle.report.proofs.write.Tie as tie
-use Rattle.report.proofs.write.Reads as reads
-use Rattle.report.proofs.write.Lts as lts
-use Rattle.listing.proofs.write.Reads as write-reads
-use Rattle.listing.proofs.write_refusal.Reads as write-refusal-reads
-use Rattle.map.proofs.build.Reads as build-reads
 
--- src/lib.rt:10:9
 build-requires : tie.Need-build-requires
 build-requires c κs = search needs
 
--- src/lib.rt:13:25
 enum-known-answer : tie.Need-enum-known-answer
 enum-known-answer c = search needs
 
--- src/lib.rt:13:31
 write-refusal-requires : tie.Need-write-refusal-requires
 write-refusal-requires c κs = search needs
 
--- src/lib.rt:14:56
 enum-told : tie.Need-enum-told
 enum-told c = search needs
 
--- src/lib.rt:14:29
 write-requires : tie.Need-write-requires
 write-requires c κs = search needs
 
--- src/lib.rt:7:1
 same-length : tie.Need-same-length
 same-length c = search needs
 
--- src/lib.rt:7:1
 same-length-2 : tie.Need-same-length-2
 same-length-2 c = search needs
 
--- src/lib.rt:7:1
 returns : tie.Need-returns
 returns c = refusal-reported _ _ _ _ _ _ (c .before .before .before .before .before .before .before .before .before .build .ensures) _ _ (c .before .before .before .before .before .answer .given .1) (c .before .before .write-refusal .ensures)
 
--- src/lib.rt:7:1
 same-length-3 : tie.Need-same-length-3
 same-length-3 c = search needs
 
--- src/lib.rt:7:1
 same-length-4 : tie.Need-same-length-4
 same-length-4 c = search needs
 
--- src/lib.rt:7:1
 returns-2 : tie.Need-returns-2
 returns-2 c = map-reported _ _ _ _ _ _ (c .before .before .before .before .before .before .before .before .before .build .ensures) _ (λ i h. c .before .before .before .before .before .before .before .before .before .before .before .before .before .shared-slice-known .given i .fits) (c .before .before .before .before .before .enum-told .given .1) (c .before .before .write .ensures)
 
