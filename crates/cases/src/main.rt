@@ -1,11 +1,14 @@
 // Runs the libraries over data given as lines of hexadecimal digits, one data file a line, and writes what they answer.
 // A line starts with r to read the data into numbers, with m to build its map and write the report, or with # for a comment.
+// A line that starts with q has a query's speed in tenths of rpm and torque in hundredths of Nm, four bytes each, before the data: the loss at that point of its map and the nearest grid point.
 use component::Answer;
 use component::Component;
 use component::sensor::Sensor;
 use libc::STDIN_FILENO;
 use libc::STDOUT_FILENO;
 use listing::ListingAnswer;
+use lookup::LossAnswer;
+use lookup::NearestAnswer;
 use refusal::Refusal;
 ghost use Prim.Native.Nat.{_≤_};
 ghost use lib.ListN.{length};
@@ -125,7 +128,74 @@ fn write_report(data: &[u8]) {
     }
 }
 
+// The size of a number that may be negative.
+fn magnitude(z: i64) -> u64 {
+    if z < 0 {
+        let up = z + 1;
+        let flipped = 0 - up;
+        flipped as u64 + 1
+    } else {
+        z as u64
+    }
+}
+
+fn write_loss(answer: LossAnswer) {
+    match answer {
+        LossAnswer::Loss(z) => {
+            if z < 0 {
+                write_number(b"loss -", magnitude(z));
+            } else {
+                write_number(b"loss ", magnitude(z));
+            }
+            io::write_all(STDOUT_FILENO, b"\n");
+        }
+        LossAnswer::Refused(x) => write_refusal(x),
+    }
+}
+
+fn write_nearest(answer: NearestAnswer) {
+    match answer {
+        NearestAnswer::At { speed, torque } => {
+            write_number(b"nearest ", wide(speed));
+            write_number(b" ", wide(torque));
+            io::write_all(STDOUT_FILENO, b"\n");
+        }
+        NearestAnswer::Refused(x) => write_refusal(x),
+    }
+}
+
+// The number of four bytes, most significant first.
+fn four(a: u8, b: u8, c: u8, d: u8) -> u32 {
+    (((a as u32) * 256 + (b as u32)) * 256 + (c as u32)) * 256 + (d as u32)
+}
+
+fn ask(speed: u32, torque: u32, data: &[u8]) {
+    let mut entries = [0u32; 2048];
+    let built = map::build(data, &mut entries);
+    let grid = built.grid;
+    let answer = built.answer;
+    match answer {
+        map::Answer::Refused(x) => write_refusal(x),
+        map::Answer::Accepted => {
+            write_loss(lookup::loss(grid, &entries, speed, torque));
+            write_nearest(lookup::nearest(grid, speed, torque));
+        }
+    }
+}
+
+fn write_query(bytes: &[u8]) {
+    if bytes.len() < 8 {
+        return;
+    }
+    let speed = four(bytes[0], bytes[1], bytes[2], bytes[3]);
+    let torque = four(bytes[4], bytes[5], bytes[6], bytes[7]);
+    ask(speed, torque, &bytes[8..]);
+}
+
 fn run_data(letter: u8, data: &[u8]) {
+    if letter == b'q' {
+        write_query(data);
+    }
     if letter == b'r' {
         write_reading(data);
     }

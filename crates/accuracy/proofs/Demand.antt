@@ -1,0 +1,179 @@
+-- Demand 3: from the bytes that the build accepts to the answers of its map. Assumes nothing.
+use Prim.Native.Nat.{ℕ, _+_, _*_, _≤_, _<_}
+use mathlib.Core.Path.{_≡_, refl, sym, ap, _∙_}
+use mathlib.Core.Bool.{Bool, true, false, not}
+use mathlib.Core.List.{List}
+use native.Mathlib.Omega.{arith}
+use lib.Dec.{leb}
+use lib.IntN.{ℤ}
+use lib.ListN.{length, getD}
+use Rattle.refusal.specs.Outcome.{accepted}
+use Rattle.refusal.proofs.Steps.{test-accepted, placed-accepted}
+use Rattle.refusal.proofs.First.{first-all}
+use Rattle.grid.specs.Map.{speedsOf, torquesOf, validMap}
+use Rattle.grid.specs.declared.Grid.{Grid}
+use Rattle.component.specs.Component.{Component, Kind, standard, measured}
+use Rattle.component.specs.declared.sensor.Sensor.{Sensor}
+use Rattle.layout.specs.Rules.{AreBytes, Rules, KindRules, SensorRules}
+use Rattle.loss.specs.Measured.{InRange, lossIsUnderZero}
+use Rattle.loss.specs.Exact.{IsNumber, EntryAccurate}
+use Rattle.loss.proofs.Accuracy.{standard-is-number, standard-entry-accurate, measured-is-number, measured-entry-accurate, wider}
+use Rattle.loss.proofs.Rows.{one-output-in-range}
+use Rattle.map.specs.Rows.{Bench, Torques, nearAxis, rowCheck}
+use Rattle.map.specs.Build.{entry, entryOfKind, check, checkOfKind, speedCheck, rowsCheck}
+use Rattle.map.specs.Answers.{Builds}
+use Rattle.map.specs.declared.Built.{Built}
+use Rattle.map.specs.declared.Answer.the-variants.{Accepted}
+use Rattle.map.proofs.Valid.{from-data, data-rules, entry-there, is-map}
+use Rattle.lookup.specs.Cell.{Point, Within, Cell, Has, entryAt}
+use Rattle.lookup.specs.Loss.{cellOf, lossAt, lossAnswer}
+use Rattle.lookup.proofs.Axes.{Axes, map-axes, cell-has}
+use Rattle.lookup.proofs.Queries.{loss-rounds, loss-answered}
+use Rattle.accuracy.specs.Axes.{AxesRules}
+use Rattle.accuracy.specs.Claim.{EntriesAccurate, Limits}
+use Rattle.accuracy.specs.Demand.{exactOfKind, exactAt, Held, Answered, Accurate, Demand3}
+use Rattle.accuracy.proofs.Limits.{limits}
+
+-- ---- an entry
+
+-- a sensor that keeps the rules of tags 6 and 7 is in the ranges that the loss needs
+sensor-in-range : (s : Sensor) → SensorRules s → InRange s
+sensor-in-range s r = record {
+  nominal = r .nominal .1;
+  sensitivity = r .sensitivity .1;
+  zero = r .zero .1;
+  calibration = r .calibration .1;
+  least-advancement = r .advancement .0;
+  parasitic = r .parasitic .1;
+  share = r .share .1;
+  difference = r .difference .1;
+  least-span = r .span .0;
+}
+
+-- a row that is accepted has no loss under zero
+not-true : (b : Bool) → not b ≡ true → b ≡ false
+not-true false e = refl
+not-true true e = sym e
+
+row-not-under-zero : (bench : Bench) (torque : ℕ) (t : Torques) → rowCheck bench torque t ≡ accepted tt → lossIsUnderZero (bench .ratio) (t .input) (t .output) ≡ false
+unfolding rowCheck
+row-not-under-zero bench torque t e =
+    let a = test-accepted (leb (t .input) (100 * bench .input .nominal)) 7 0 _ tt e .1 in
+    let b = test-accepted (leb (t .output) (100 * bench .output .nominal)) 7 4 _ tt a .1 in
+    let c = test-accepted (nearAxis torque (t .output)) 8 4 _ tt b .1 in
+    not-true _ (test-accepted (not (lossIsUnderZero (bench .ratio) (t .input) (t .output))) 9 0 _ tt c .0)
+
+-- how far an entry may be above its exact value, in hundredths of Nm
+pub excessOf : Kind → ℕ
+excessOf standard = 1
+excessOf (measured input output rows) = 2
+
+pub excess-most : (kind : Kind) → excessOf kind ≤ 2
+unfolding excessOf
+excess-most standard = omega arith
+excess-most (measured input output rows) = omega arith
+
+kind-number : (c : Component) (i j : ℕ) (kind : Kind) → IsNumber (exactOfKind c i j kind)
+unfolding exactOfKind
+kind-number c i j standard = standard-is-number (c .line) (c .ratio) (getD (c .torques) j 0)
+kind-number c i j (measured input output rows) = measured-is-number _
+
+kind-accurate : (c : Component) (i j : ℕ) (kind : Kind) → Rules c → KindRules (length (c .speeds)) (length (c .torques)) kind → checkOfKind c i j kind ≡ accepted tt
+    → EntryAccurate (excessOf kind) (exactOfKind c i j kind) (entryOfKind c i j kind)
+unfolding exactOfKind checkOfKind entryOfKind excessOf
+kind-accurate c i j standard r k e = standard-entry-accurate (c .line) (c .ratio) (getD (c .torques) j 0)
+kind-accurate c i j (measured input output rows) r k e =
+    measured-entry-accurate _
+    (one-output-in-range (r .ratio .1) (sensor-in-range input (k .0)) (sensor-in-range output (k .1)) (row-not-under-zero _ _ _ (placed-accepted _ _ tt e)))
+
+pub exact-number : (c : Component) (i j : ℕ) → IsNumber (exactAt c i j)
+unfolding exactAt
+exact-number c i j = kind-number c i j (c .kind)
+
+-- all rows are fine, so each entry is as near as its kind allows
+pub entry-near : (c : Component) → Rules c → rowsCheck c ≡ accepted tt → (i j : ℕ) → i < length (c .speeds) → j < length (c .torques)
+    → EntryAccurate (excessOf (c .kind)) (exactAt c i j) (entry c i j)
+unfolding exactAt rowsCheck speedCheck check entry
+entry-near c r e i j h l =
+    kind-accurate c i j (c .kind) r (r .kind)
+    (first-all _ 0 (length (c .torques)) (first-all _ 0 (length (c .speeds)) e i (omega arith) (omega arith)) j (omega arith) (omega arith))
+
+-- ---- the answers over a map that has these axes, and entries that are so near
+
+module _ (c : Component) (grid : Grid) (entries : List ℕ) (valid : validMap grid entries ≡ true) (s : speedsOf (grid .speeds) ≡ c .speeds) (t : torquesOf (grid .torques) ≡ c .torques) where
+  axes : Axes (c .speeds) (c .torques)
+  axes = rw (s, t) at (map-axes grid entries valid)
+
+  axes-rules : AxesRules (c .speeds) (c .torques)
+  axes-rules = record {
+    speeds-rise = record { two = axes .speeds .two; rises = axes .speeds .rises };
+    torques-rise = record { two = axes .torques .two; rises = axes .torques .rises };
+    first-step = axes .step;
+  }
+
+  loss-there : (p : Point) → Within (c .speeds) (c .torques) p → lossAnswer grid entries p ≡ accepted (lossAt (c .speeds) (c .torques) entries p)
+  loss-there p w = rw (s, t) at (loss-answered grid entries p valid (rw (s, t) w))
+
+  pub answer-limits : (excess : ℕ) → EntriesAccurate excess (c .speeds) (c .torques) (entryAt (length (c .torques)) entries) (exactAt c)
+      → (p : Point) → Within (c .speeds) (c .torques) p → (k : Cell) → Has (c .speeds) (c .torques) p k
+      → Limits excess (c .speeds) (c .torques) (entryAt (length (c .torques)) entries) (exactAt c) p k (lossAt (c .speeds) (c .torques) entries p)
+  answer-limits excess near p w k has =
+      limits (entryAt (length (c .torques)) entries) axes-rules near has (loss-rounds (c .speeds) (c .torques) entries axes p w k has)
+
+  held-of : (p : Point) (k : Cell) (z : ℤ) → Limits 2 (c .speeds) (c .torques) (entryAt (length (c .torques)) entries) (exactAt c) p k z → Held c entries p k z
+  held-of p k z h = record {
+    named = h .named;
+    never-below = h .low;
+    less-than-3-above = h .high;
+    less-than-2-below = h .low-below;
+    less-than-5-above = h .high-below;
+  }
+
+  answered-at : EntriesAccurate 2 (c .speeds) (c .torques) (entryAt (length (c .torques)) entries) (exactAt c)
+      → (p : Point) → Within (c .speeds) (c .torques) p → Answered c grid entries p
+  answered-at near p w = record {
+    loss = lossAt (c .speeds) (c .torques) entries p;
+    answered = loss-there p w;
+    some-cell = (cellOf (c .speeds) (c .torques) p, cell-has (c .speeds) (c .torques) axes p w);
+    held = λ k has. held-of p k _ (answer-limits 2 near p w k has);
+  }
+
+-- ---- from the bytes
+
+module _ (bytes before after : List ℕ) (r : Built) (areBytes : AreBytes bytes) (b : Builds bytes before after r) (yes : r .answer ≡ Accepted) where
+  -- what the data says
+  abbrev pub said : Component
+  said = from-data bytes before after areBytes r b yes .says
+
+  -- each entry as near as its kind allows
+  pub built-entries-near : EntriesAccurate (excessOf (said .kind)) (said .speeds) (said .torques) (entryAt (length (said .torques)) after) (exactAt said)
+  built-entries-near i j h l =
+      let d = from-data bytes before after areBytes r b yes in
+      let m : length (d .says .speeds) ≡ r .grid .speeds .count = ap length (d .speeds) ∙ b .counts .speeds-length in
+      let n : length (d .says .torques) ≡ r .grid .torques .count = ap length (d .torques) ∙ b .counts .torques-length in
+      let there : getD after (i * length (d .says .torques) + j) 0 ≡ entry (d .says) i j =
+      rw n (entry-there bytes before after areBytes r b yes i j (omega arith) (omega arith)) in
+      rw there (entry-near (d .says) (data-rules bytes before after areBytes r b yes) (d .rows) i j h l)
+
+  built-accurate : Accurate bytes (r .grid) after
+  built-accurate =
+      let d = from-data bytes before after areBytes r b yes in
+      let near : EntriesAccurate 2 (d .says .speeds) (d .says .torques) (entryAt (length (d .says .torques)) after) (exactAt (d .says)) =
+      λ i j h l. wider (excess-most (d .says .kind)) (built-entries-near i j h l) in
+      record {
+        says = d .says;
+        read = d .read;
+        speeds = sym (d .speeds);
+        torques = sym (d .torques);
+        one-number = λ i j h l. exact-number (d .says) i j;
+        entries-near = near;
+        answers = answered-at (d .says) (r .grid) after (is-map bytes before after areBytes r b yes) (sym (d .speeds)) (sym (d .torques)) near;
+      }
+
+  -- "kind 1": an entry is less than 0.01 Nm above its exact value
+  pub standard-sharper : said .kind ≡ standard → EntriesAccurate 1 (said .speeds) (said .torques) (entryAt (length (said .torques)) after) (exactAt said)
+  unfolding excessOf
+  standard-sharper e i j h l = rw e at (built-entries-near i j h l)
+
+pub demand3 : Demand3
+demand3 = built-accurate

@@ -1,0 +1,11 @@
+-- The crate's own laws.
+pub mod Axes
+pub mod Weights
+pub mod Sums
+pub mod Limits
+pub mod Examples
+pub mod Demand
+pub mod Worked
+pub mod Reckoned
+pub mod Asking
+pub mod Demands

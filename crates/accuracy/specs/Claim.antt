@@ -1,0 +1,61 @@
+-- Document 01, "Accuracy over whole numbers": demand 3 of one map, for a point and a cell that has it. Losses are in hundredths of Nm.
+-- Entries and exact entries are given at the indices of the grid: a speed's, then a torque's.
+use Prim.Native.Nat.{ℕ, _+_, _*_, _≤_, _<_}
+use mathlib.Core.List.{List}
+use lib.ListN.{length, getD}
+use lib.IntN.{ℤ}
+use Rattle.arith.specs.Fraction.{Fraction, whole, signed, _⊕_, _≼_, _≺_, RoundsUp}
+use Rattle.loss.specs.Exact.{Cut, EntryAccurate}
+use Rattle.lookup.specs.Cell.{Point, Cell, Side, Corners, weight, sum, index, corners}
+
+-- ---- an entry
+
+-- "An entry itself is never below its exact value and less than .. above. This holds at every point of the grid."
+abbrev pub EntriesAccurate : (excess : ℕ) (speeds torques : List ℕ) (entry : ℕ → ℕ → ℕ) (exact : ℕ → ℕ → Cut) → Type 0
+EntriesAccurate excess speeds torques entry exact =
+    (i j : ℕ) → i < length speeds → j < length torques → EntryAccurate excess (exact i j) (entry i j)
+
+-- ---- the fractions that an answer is held against
+
+-- "the exact entries at the cell's four corners (the exact corners)"
+abbrev pub exactCorner : (ℕ → ℕ → Cut) → Cell → Side → Side → Cut
+exactCorner exact k s t = exact (index (k .speed) s) (index (k .torque) t)
+
+-- a "choice of fractions at or below the exact corners where the corner's weight is positive, and at or above where it is negative"
+pub record ChosenBelow (speeds torques : List ℕ) (exact : ℕ → ℕ → Cut) (p : Point) (k : Cell) (f : Corners Fraction) : Type 0 where
+  pub positive : (s t : Side) → whole 0 ≺ weight speeds torques p k s t → exactCorner exact k s t .AtOrBelow (f s t)
+  pub negative : (s t : Side) → weight speeds torques p k s t ≺ whole 0 → exactCorner exact k s t .AtOrAbove (f s t)
+
+-- "with the sides turned"
+pub record ChosenAbove (speeds torques : List ℕ) (exact : ℕ → ℕ → Cut) (p : Point) (k : Cell) (f : Corners Fraction) : Type 0 where
+  pub positive : (s t : Side) → whole 0 ≺ weight speeds torques p k s t → exactCorner exact k s t .AtOrAbove (f s t)
+  pub negative : (s t : Side) → weight speeds torques p k s t ≺ whole 0 → exactCorner exact k s t .AtOrBelow (f s t)
+
+-- ---- an answer
+
+-- the sum of the entries at the cell's corners, each times its weight: what "Loss at a point" rounds up once
+abbrev pub entrySum : (speeds torques : List ℕ) (entry : ℕ → ℕ → ℕ) → Point → Cell → Fraction
+entrySum speeds torques entry p k = sum speeds torques p k (corners (λ i j. whole (entry i j)) k)
+
+-- the two stretches of torque that have limits of their own
+abbrev pub FromFirstTorque : (torques : List ℕ) → Point → Type 0
+FromFirstTorque torques p = 100 * getD torques 0 0 ≤ p .torque
+
+abbrev pub BelowFirstTorque : (torques : List ℕ) → Point → Type 0
+BelowFirstTorque torques p = p .torque < 100 * getD torques 0 0
+
+-- The answer z "is the one that 'Loss at a point' names". "For every choice of fractions .. that answer keeps its lower limit against their weighted sum; the upper limit likewise with the sides turned."
+-- The limits are 0 and excess + 1 from the first torque upwards, and excess and 2 * excess + 1 below it. With an excess of 2 that is 0 and 3, 2 and 5.
+pub record Limits (excess : ℕ) (speeds torques : List ℕ) (entry : ℕ → ℕ → ℕ) (exact : ℕ → ℕ → Cut) (p : Point) (k : Cell) (z : ℤ) : Type 0 where
+  pub named : RoundsUp (entrySum speeds torques entry p k) z
+  pub low : FromFirstTorque torques p → (f : Corners Fraction) → ChosenBelow speeds torques exact p k f → sum speeds torques p k f ≼ signed z
+  pub high : FromFirstTorque torques p → (f : Corners Fraction) → ChosenAbove speeds torques exact p k f → signed z ≺ sum speeds torques p k f ⊕ whole (excess + 1)
+  pub low-below : BelowFirstTorque torques p → (f : Corners Fraction) → ChosenBelow speeds torques exact p k f → sum speeds torques p k f ≺ signed z ⊕ whole excess
+  pub high-below : BelowFirstTorque torques p → (f : Corners Fraction) → ChosenAbove speeds torques exact p k f → signed z ≺ sum speeds torques p k f ⊕ whole (2 * excess + 1)
+
+-- ---- "On a grid line either cell gives the same sum."
+
+-- two fractions of one value
+pub record SameValue (x y : Fraction) : Type 0 where
+  pub at-most : x ≼ y
+  pub at-least : y ≼ x

@@ -1,0 +1,74 @@
+-- Document 01, "Accuracy over whole numbers": "Demand 3 is one claim from the data's bytes to the answer, for all data and lent entries that the build accepts, with axes and entries handed on as the build left them." Losses are in hundredths of Nm.
+use Prim.Native.Nat.{ℕ, _<_}
+use mathlib.Core.Path.{_≡_}
+use mathlib.Core.List.{List}
+use lib.IntN.{ℤ}
+use lib.ListN.{length, getD}
+use Rattle.arith.specs.Fraction.{Fraction, whole, signed, _⊕_, _≼_, _≺_, RoundsUp}
+use Rattle.refusal.specs.Outcome.{accepted}
+use Rattle.grid.specs.Map.{speedsOf, torquesOf}
+use Rattle.grid.specs.declared.Grid.{Grid}
+use Rattle.component.specs.Component.{Component, Kind, standard, measured, component}
+use Rattle.layout.specs.Rules.{AreBytes}
+use Rattle.loss.specs.Exact.{Cut, IsNumber, EntryAccurate, cut, exactStandard, exactMeasured}
+use Rattle.map.specs.Rows.{rowAt, rowOf}
+use Rattle.map.specs.Build.{pointIndex}
+use Rattle.map.specs.Answers.{Builds}
+use Rattle.map.specs.declared.Built.{Built}
+use Rattle.map.specs.declared.Answer.the-variants.{Accepted}
+use Rattle.lookup.specs.Cell.{Point, Within, Cell, Has, Corners, sum, entryAt}
+use Rattle.lookup.specs.Loss.{lossAnswer}
+use Rattle.accuracy.specs.Claim.{ChosenBelow, ChosenAbove, entrySum, FromFirstTorque, BelowFirstTorque}
+
+-- ---- the exact entries of component data, by the indices of a point's speed and torque
+
+-- "The exact entry of kind 1 is the exact loss of the standard rule." For kind 2 it is that of the point's row, whose torques stand in the bytes of tag 8.
+unfoldable pub exactOfKind : Component → (speed torque : ℕ) → Kind → Cut
+exactOfKind c speed torque standard = cut (exactStandard (c .line) (c .ratio) (getD (c .torques) torque 0))
+exactOfKind c speed torque (measured input output rows) =
+    cut (exactMeasured (rowOf (record { ratio = c .ratio; input = input; output = output }) (rowAt (rows .bytes) (pointIndex c speed torque))))
+
+unfoldable pub exactAt : Component → (speed torque : ℕ) → Cut
+exactAt c speed torque = exactOfKind c speed torque (c .kind)
+
+-- ---- an answer, in a cell that has the point
+
+-- The answer z "is the one that 'Loss at a point' names". "For every choice of fractions .. that answer keeps its lower limit against their weighted sum; the upper limit likewise with the sides turned."
+-- From the lowest torque upwards it is never below and less than 0.03 Nm above; under it less than 0.02 Nm below and less than 0.05 Nm above.
+pub record Held (c : Component) (entries : List ℕ) (p : Point) (k : Cell) (z : ℤ) : Type 0 where
+  pub named : RoundsUp (entrySum (c .speeds) (c .torques) (entryAt (length (c .torques)) entries) p k) z
+  pub never-below : FromFirstTorque (c .torques) p → (f : Corners Fraction) → ChosenBelow (c .speeds) (c .torques) (exactAt c) p k f
+      → sum (c .speeds) (c .torques) p k f ≼ signed z
+  pub less-than-3-above : FromFirstTorque (c .torques) p → (f : Corners Fraction) → ChosenAbove (c .speeds) (c .torques) (exactAt c) p k f
+      → signed z ≺ sum (c .speeds) (c .torques) p k f ⊕ whole 3
+  pub less-than-2-below : BelowFirstTorque (c .torques) p → (f : Corners Fraction) → ChosenBelow (c .speeds) (c .torques) (exactAt c) p k f
+      → sum (c .speeds) (c .torques) p k f ≺ signed z ⊕ whole 2
+  pub less-than-5-above : BelowFirstTorque (c .torques) p → (f : Corners Fraction) → ChosenAbove (c .speeds) (c .torques) (exactAt c) p k f
+      → signed z ≺ sum (c .speeds) (c .torques) p k f ⊕ whole 5
+
+-- "Every query within the map's limits is accepted", and its answer is held in every cell that has the point, of which there is one.
+pub record Answered (c : Component) (grid : Grid) (entries : List ℕ) (p : Point) : Type 0 where
+  pub loss : ℤ
+  pub answered : lossAnswer grid entries p ≡ accepted loss
+  pub some-cell : (k : Cell) × Has (c .speeds) (c .torques) p k
+  pub held : (k : Cell) → Has (c .speeds) (c .torques) p k → Held c entries p k loss
+
+-- ---- the claim
+
+-- of data, and of the grid and the entries that stand where its build is done
+pub record Accurate (bytes : List ℕ) (grid : Grid) (entries : List ℕ) : Type 0 where
+  pub says : Component
+  pub read : component bytes ≡ accepted says
+  -- "The map's axes are those of tags 4 and 5."
+  pub speeds : speedsOf (grid .speeds) ≡ says .speeds
+  pub torques : torquesOf (grid .torques) ≡ says .torques
+  -- each exact entry is one number
+  pub one-number : (i j : ℕ) → i < length (says .speeds) → j < length (says .torques) → IsNumber (exactAt says i j)
+  -- "An entry itself is never below its exact value and less than 0.02 Nm above. This holds at every point of the grid."
+  pub entries-near : (i j : ℕ) → i < length (says .speeds) → j < length (says .torques)
+      → EntryAccurate 2 (exactAt says i j) (entryAt (length (says .torques)) entries i j)
+  pub answers : (p : Point) → Within (says .speeds) (says .torques) p → Answered says grid entries p
+
+-- the premises are that bytes are bytes, what `build` promises of its answer, and that it accepts
+abbrev pub Demand3 : Type 0
+Demand3 = (bytes before after : List ℕ) (r : Built) → AreBytes bytes → Builds bytes before after r → r .answer ≡ Accepted → Accurate bytes (r .grid) after

@@ -1,0 +1,5 @@
+-- What the laws of this crate cite.
+pub mod Axes
+pub mod Claim
+pub mod Demand
+pub mod Answers

@@ -1,0 +1,11 @@
+-- The crate's own laws.
+pub mod Search
+pub mod Axes
+pub mod Signs
+pub mod Rounding
+pub mod Weights
+pub mod Lines
+pub mod Queries
+pub mod Parts
+pub mod Nearness
+pub mod Examples

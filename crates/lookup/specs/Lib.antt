@@ -1,0 +1,5 @@
+pub mod Cell
+pub mod Loss
+pub mod Nearest
+pub mod Answers
+pub mod Interpolation
