@@ -9,3 +9,4 @@ pub mod Worked
 pub mod Reckoned
 pub mod Asking
 pub mod Demands
+pub mod Conventions

@@ -3,3 +3,4 @@ pub mod Axes
 pub mod Claim
 pub mod Demand
 pub mod Answers
+pub mod Conventions

@@ -1,0 +1,40 @@
+-- A fraction over 0, a difference under 0 and a number past the end of a list have a value by convention only. Accepted data reaches none of them.
+use Prim.Native.Nat.{ℕ, _+_, _*_, _≤_, _<_}
+use mathlib.Core.List.{List}
+use lib.ListN.{length, getD}
+use Rattle.component.specs.Component.{Component, Kind, standard, measured}
+use Rattle.component.specs.declared.sensor.Sensor.{Sensor}
+use Rattle.loss.specs.Standard.{lineOf}
+use Rattle.loss.specs.Measured.{temperatureOnSensitivity, temperatureOnZero, calibration, parasiticLoads}
+use Rattle.map.specs.Build.{points, pointIndex}
+use Rattle.lookup.specs.Cell.{Point, Cell, Has}
+
+-- no part of a sensor's uncertainty is over 0
+pub record PartsDefined (sensor : Sensor) : Type 0 where
+  pub sensitivity : (C : ℕ) → 0 < temperatureOnSensitivity sensor C .denominator
+  pub zero : 0 < temperatureOnZero sensor .denominator
+  pub calibration : 0 < calibration sensor .denominator
+  pub parasitic : 0 < parasiticLoads sensor .denominator
+
+-- each point's row stands in the bytes of tag 8
+abbrev pub KindDefined : (points : ℕ) → Kind → Type 0
+KindDefined points standard = Unit {0}
+KindDefined points (measured input output rows) =
+    PartsDefined input × PartsDefined output × ((row : ℕ) → row < points → 8 * row + 8 ≤ length (rows .bytes))
+
+-- the shares of a cell's sides are over a width above 0
+pub record WidthsDefined (speeds torques : List ℕ) (k : Cell) : Type 0 where
+  pub speed : getD speeds (k .speed) 0 < getD speeds (k .speed + 1) 0
+  pub torque : getD torques (k .torque) 0 < getD torques (k .torque + 1) 0
+
+pub record Defined (c : Component) (entries : List ℕ) : Type 0 where
+  -- the axle line is one of the table's five
+  pub first-line : 1 ≤ c .line
+  pub last-line : c .line ≤ 5
+  pub efficiency-above-0 : 0 < lineOf (c .line) .efficiency
+  pub efficiency-to-100 : lineOf (c .line) .efficiency ≤ 100
+  pub kind : KindDefined (points c) (c .kind)
+  -- every point of the grid is one of the points, and has its entry
+  pub point-there : (i j : ℕ) → i < length (c .speeds) → j < length (c .torques) → pointIndex c i j < points c
+  pub entry-there : (i j : ℕ) → i < length (c .speeds) → j < length (c .torques) → pointIndex c i j < length entries
+  pub widths : (p : Point) (k : Cell) → Has (c .speeds) (c .torques) p k → WidthsDefined (c .speeds) (c .torques) k
