@@ -1,0 +1,427 @@
+// Runs the libraries over cases given on standard input, and writes what they answer, so that it can be compared with another implementation.
+// A case is a head of 12 bytes, a body, and so many questions of 8 bytes (speed in tenths of rpm, torque in hundredths of Nm). All numbers are most significant byte first. The head:
+//   1 byte: r to read data into numbers, p for what the map program writes, b to build a map of data, m for a map as a caller may lend it;
+//   2 bytes: how many entries are lent;
+//   4 bytes: how many bytes are lent for the listing;
+//   4 bytes: the length of the body: data, or a lent map;
+//   1 byte: how many questions follow the body.
+// A lent map is the count of speeds and the count of torques, 8 bytes each, the 32 speeds and 64 torques of 2 bytes, and the lent entries of 4 bytes.
+use component::Component;
+use component::sensor::Sensor;
+use grid::Grid;
+use grid::SpeedAxis;
+use grid::TorqueAxis;
+use libc::STDIN_FILENO;
+use libc::STDOUT_FILENO;
+use listing::ListingAnswer;
+use lookup::LossAnswer;
+use lookup::NearestAnswer;
+use refusal::Refusal;
+ghost use Prim.Native.Nat.{_≤_};
+ghost use lib.ListN.{length};
+
+// No input has more cases.
+const MOST_CASES: u64 = 1_000_000_000;
+
+// What entries and bytes hold before they are lent.
+const LENT_ENTRY: u32 = 0xA5A5_A5A5;
+
+const LENT_BYTE: u8 = 0xA5;
+
+struct Head {
+    letter: u8,
+    entries: usize,
+    room: usize,
+    length: usize,
+    questions: usize,
+}
+
+fn write_number(name: &[u8], n: u64) {
+    io::write_all(STDOUT_FILENO, name);
+    io::print_decimal(STDOUT_FILENO, n);
+}
+
+fn end_line() {
+    io::write_all(STDOUT_FILENO, b"\n");
+}
+
+fn wide(n: u16) -> u64 {
+    n as u64
+}
+
+// A name and the first count numbers.
+fn write_numbers(name: &[u8], numbers: &[u16], count: usize) {
+    io::write_all(STDOUT_FILENO, name);
+    let mut i: usize = 0;
+    while i < count {
+        if i < numbers.len() {
+            write_number(b" ", wide(numbers[i]));
+        }
+        i += 1;
+    }
+}
+
+fn write_sensor(name: &[u8], s: Sensor) {
+    let numbers = [
+        s.nominal,
+        s.sensitivity,
+        s.zero,
+        s.calibration,
+        s.advancement,
+        s.parasitic,
+        s.share,
+        s.difference,
+        s.span,
+    ];
+    write_numbers(name, &numbers, 9);
+}
+
+fn write_refusal(x: Refusal) {
+    write_number(b"refused ", x.number() as u64);
+    write_number(b" at ", x.place() as u64);
+    end_line();
+}
+
+fn write_component(c: Component) {
+    let speeds = c.grid.speeds;
+    let torques = c.grid.torques;
+    write_number(b"kind ", c.kind as u64);
+    write_number(b" line ", c.line as u64);
+    write_number(b" ratio ", c.ratio as u64);
+    write_numbers(b" speeds", &speeds.numbers, speeds.count);
+    write_numbers(b" torques", &torques.numbers, torques.count);
+    if c.kind == 2 {
+        write_sensor(b" input", c.input);
+        write_sensor(b" output", c.output);
+        write_number(b" rows ", c.rows.start as u64);
+        write_number(b" to ", c.rows.end as u64);
+    }
+    end_line();
+}
+
+fn write_reading(data: &[u8]) {
+    let reading = component::read(data);
+    let answer = reading.answer;
+    match answer {
+        component::Answer::Accepted => write_component(reading.component),
+        component::Answer::Refused(x) => write_refusal(x),
+    }
+}
+
+// The text that was written, or the refusal.
+fn write_text(answer: ListingAnswer, text: &[u8]) {
+    match answer {
+        ListingAnswer::Length(length) => {
+            if length <= text.len() {
+                io::write_all(STDOUT_FILENO, &text[0..length]);
+            }
+        }
+        ListingAnswer::Refused(x) => write_refusal(x),
+    }
+}
+
+// How many bytes the answer says were written.
+fn written(answer: ListingAnswer) -> usize {
+    match answer {
+        ListingAnswer::Length(length) => length,
+        ListingAnswer::Refused(_) => 0,
+    }
+}
+
+// The size of a number that may be negative.
+fn magnitude(z: i64) -> u64 {
+    if z < 0 {
+        let up = z + 1;
+        let flipped = 0 - up;
+        flipped as u64 + 1
+    } else {
+        z as u64
+    }
+}
+
+fn write_loss(answer: LossAnswer) {
+    match answer {
+        LossAnswer::Loss(z) => {
+            if z < 0 {
+                write_number(b"loss -", magnitude(z));
+            } else {
+                write_number(b"loss ", magnitude(z));
+            }
+            end_line();
+        }
+        LossAnswer::Refused(x) => write_refusal(x),
+    }
+}
+
+fn write_nearest(answer: NearestAnswer) {
+    match answer {
+        NearestAnswer::At { speed, torque } => {
+            write_number(b"nearest ", wide(speed));
+            write_number(b" ", wide(torque));
+            end_line();
+        }
+        NearestAnswer::Refused(x) => write_refusal(x),
+    }
+}
+
+fn pair(a: u8, b: u8) -> u16 {
+    (a as u16) * 256 + (b as u16)
+}
+
+fn four(a: u8, b: u8, c: u8, d: u8) -> u32 {
+    (((a as u32) * 256 + (b as u32)) * 256 + (c as u32)) * 256 + (d as u32)
+}
+
+// The number of four bytes from a place on; 0 where there are fewer.
+fn number_at(bytes: &[u8], at: usize) -> u32 {
+    if bytes.len() < 4 {
+        return 0;
+    }
+    if bytes.len() - 4 < at {
+        return 0;
+    }
+    four(bytes[at], bytes[at + 1], bytes[at + 2], bytes[at + 3])
+}
+
+// The number of eight bytes, given as two of four: any usize.
+fn count(high: u32, low: u32) -> usize {
+    (high as usize) * 4_294_967_296 + (low as usize)
+}
+
+// Numbers of two bytes each, as many as there are bytes for.
+fn decode_numbers(bytes: &[u8], numbers: &mut [u16]) {
+    let mut i: usize = 0;
+    while i < numbers.len() {
+        if bytes.len() / 2 <= i {
+            return;
+        }
+        numbers[i] = pair(bytes[2 * i], bytes[2 * i + 1]);
+        i += 1;
+    }
+}
+
+// Numbers of four bytes each, as many as there are bytes for.
+fn decode_entries(bytes: &[u8], entries: &mut [u32]) {
+    let mut i: usize = 0;
+    while i < entries.len() {
+        if bytes.len() / 4 <= i {
+            return;
+        }
+        entries[i] = number_at(bytes, 4 * i);
+        i += 1;
+    }
+}
+
+fn fill_entries(entries: &mut [u32]) {
+    let mut i: usize = 0;
+    while i < entries.len() {
+        entries[i] = LENT_ENTRY;
+        i += 1;
+    }
+}
+
+fn fill_text(text: &mut [u8]) {
+    let mut i: usize = 0;
+    while i < text.len() {
+        text[i] = LENT_BYTE;
+        i += 1;
+    }
+}
+
+// Whether the entries from a place on are as they were lent.
+fn entries_kept(entries: &[u32], first: usize) -> bool {
+    let mut kept = true;
+    let mut i: usize = 0;
+    while i < entries.len() {
+        kept = kept & ((i < first) | (entries[i] == LENT_ENTRY));
+        i += 1;
+    }
+    kept
+}
+
+// Whether the bytes from a place on are as they were lent.
+fn text_kept(text: &[u8], first: usize) -> bool {
+    let mut kept = true;
+    let mut i: usize = 0;
+    while i < text.len() {
+        kept = kept & ((i < first) | (text[i] == LENT_BYTE));
+        i += 1;
+    }
+    kept
+}
+
+fn write_kept(name: &[u8], kept: bool) {
+    io::write_all(STDOUT_FILENO, name);
+    if kept {
+        io::write_all(STDOUT_FILENO, b" kept\n");
+    } else {
+        io::write_all(STDOUT_FILENO, b" changed\n");
+    }
+}
+
+// The loss and the nearest point for each question.
+fn answer_questions(grid: Grid, entries: &[u32], questions: &[u8]) {
+    let mut i: usize = 0;
+    while i < questions.len() / 8 {
+        let speed = number_at(questions, 8 * i);
+        let torque = number_at(questions, 8 * i + 4);
+        write_loss(lookup::loss(grid, entries, speed, torque));
+        write_nearest(lookup::nearest(grid, speed, torque));
+        i += 1;
+    }
+}
+
+// A map's listing in the lent text, and the answers to the questions.
+fn use_map(grid: Grid, entries: &[u32], questions: &[u8], room: usize, text: &mut [u8]) {
+    if text.len() < room {
+        return;
+    }
+    let listed = listing::write(grid, entries, &mut text[0..room]);
+    write_text(listed, text);
+    write_kept(b"text", text_kept(text, written(listed)));
+    answer_questions(grid, entries, questions);
+}
+
+// How many entries a map has; 0 where the counts are not those of a map.
+fn entry_count(speeds: usize, torques: usize) -> usize {
+    if 32 < speeds {
+        return 0;
+    }
+    if 64 < torques {
+        return 0;
+    }
+    speeds * torques
+}
+
+// Builds the map of data in lent entries, the first of those that there are.
+fn run_build(
+    data: &[u8],
+    questions: &[u8],
+    lent: usize,
+    room: usize,
+    entries: &mut [u32],
+    text: &mut [u8],
+) {
+    if entries.len() < lent {
+        return;
+    }
+    fill_entries(entries);
+    let built = map::build(data, &mut entries[0..lent]);
+    let grid = built.grid;
+    let answer = built.answer;
+    match answer {
+        map::Answer::Refused(x) => {
+            write_refusal(x);
+            write_kept(b"entries", entries_kept(entries, 0));
+        }
+        map::Answer::Accepted => {
+            write_kept(
+                b"entries",
+                entries_kept(entries, entry_count(grid.speeds.count, grid.torques.count)),
+            );
+            use_map(grid, &entries[0..lent], questions, room, text);
+        }
+    }
+}
+
+// A map as a caller may lend it, whatever its numbers are.
+fn run_map(
+    body: &[u8],
+    questions: &[u8],
+    lent: usize,
+    room: usize,
+    entries: &mut [u32],
+    text: &mut [u8],
+) {
+    if entries.len() < lent {
+        return;
+    }
+    if body.len() < 208 {
+        return;
+    }
+    let mut speeds = [0u16; 32];
+    let mut torques = [0u16; 64];
+    decode_numbers(&body[16..80], &mut speeds);
+    decode_numbers(&body[80..208], &mut torques);
+    decode_entries(&body[208..], entries);
+    let grid = Grid {
+        speeds: SpeedAxis {
+            numbers: speeds,
+            count: count(number_at(body, 0), number_at(body, 4)),
+        },
+        torques: TorqueAxis {
+            numbers: torques,
+            count: count(number_at(body, 8), number_at(body, 12)),
+        },
+    };
+    use_map(grid, &entries[0..lent], questions, room, text);
+}
+
+fn run_program(data: &[u8], entries: &mut [u32], text: &mut [u8]) {
+    let answer = report::write(data, entries, text);
+    write_text(answer, text);
+}
+
+fn run_body(head: Head, body: &[u8], questions: &[u8], entries: &mut [u32], text: &mut [u8]) {
+    fill_text(text);
+    let letter = head.letter;
+    match letter {
+        b'r' => write_reading(body),
+        b'p' => run_program(body, entries, text),
+        b'b' => run_build(body, questions, head.entries, head.room, entries, text),
+        b'm' => run_map(body, questions, head.entries, head.room, entries, text),
+        _ => {}
+    }
+}
+
+// Reads the body of a case and its questions, and writes the answers; false where it is not whole.
+fn answer_case(head: Head, body: &mut [u8], entries: &mut [u32], text: &mut [u8]) -> bool {
+    let length = head.length;
+    if body.len() < length {
+        return false;
+    }
+    if (body.len() - length) / 8 < head.questions {
+        return false;
+    }
+    let all = length + 8 * head.questions;
+    if io::read_full(STDIN_FILENO, &mut body[0..all]) != all {
+        return false;
+    }
+    run_body(head, &body[0..length], &body[length..all], entries, text);
+    true
+}
+
+// Reads a case and writes its number and its answers; false where no whole case is left.
+fn run_case(number: u64, body: &mut [u8], entries: &mut [u32], text: &mut [u8]) -> bool {
+    let mut start = [0u8; 12];
+    if io::read_full(STDIN_FILENO, &mut start) != 12 {
+        return false;
+    }
+    let head = Head {
+        letter: start[0],
+        entries: pair(start[1], start[2]) as usize,
+        room: four(start[3], start[4], start[5], start[6]) as usize,
+        length: four(start[7], start[8], start[9], start[10]) as usize,
+        questions: pair(0, start[11]) as usize,
+    };
+    write_number(b"case ", number);
+    end_line();
+    answer_case(head, body, entries, text)
+}
+
+fn run(body: &mut [u8], entries: &mut [u32], text: &mut [u8]) {
+    let mut number: u64 = 0;
+    while number < MOST_CASES {
+        if !run_case(number, body, entries, text) {
+            return;
+        }
+        number += 1;
+    }
+}
+
+fn main() {
+    let mut body = [0u8; 65536];
+    let mut entries = [0u32; 2048];
+    let mut text = [0u8; 65536];
+    run(&mut body, &mut entries, &mut text);
+}

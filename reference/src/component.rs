@@ -1,0 +1,250 @@
+//! Document 01, "Component data", with refusals 1 to 6 and 12 of "Refusals".
+
+use crate::refusal::Refusal;
+use std::ops::RangeInclusive;
+
+/// The rules of an axis: how many numbers it has, and their range.
+pub(crate) struct AxisRule {
+    pub(crate) count: RangeInclusive<usize>,
+    pub(crate) range: RangeInclusive<u16>,
+}
+
+pub(crate) const SPEED_RULE: AxisRule = AxisRule {
+    count: 2..=32,
+    range: 1..=3_000,
+};
+pub(crate) const TORQUE_RULE: AxisRule = AxisRule {
+    count: 2..=64,
+    range: 0..=50_000,
+};
+
+const SENSOR_LENGTH: usize = 18;
+const ROW_LENGTH: usize = 8;
+
+/// The nine numbers of tag 6 or 7, in their order; document 01's letter of each.
+#[derive(Clone, Copy, PartialEq, Eq, Debug)]
+pub struct Sensor {
+    /// N, Nm.
+    pub nominal: u16,
+    /// w, ppm.
+    pub sensitivity: u16,
+    /// z, ppm.
+    pub zero: u16,
+    /// c, ppm.
+    pub calibration: u16,
+    /// k, thousandths.
+    pub advancement: u16,
+    /// s, ppm.
+    pub parasitic: u16,
+    /// p, thousandths.
+    pub share: u16,
+    /// d, tenths of K.
+    pub difference: u16,
+    /// R, K.
+    pub span: u16,
+}
+
+/// One row of tag 8, both torques in hundredths of Nm.
+#[derive(Clone, Copy, PartialEq, Eq, Debug)]
+pub struct Row {
+    pub input: u32,
+    pub output: u32,
+}
+
+/// The kind of the data, with the fields that only this kind has.
+#[derive(Clone, PartialEq, Eq, Debug)]
+pub enum Kind {
+    Standard,
+    Measured {
+        input: Sensor,
+        output: Sensor,
+        rows: Vec<Row>,
+        /// Offset of the first row in the data.
+        rows_start: usize,
+    },
+}
+
+/// Component data as read; the rows of a measured one are not yet tested.
+#[derive(Clone, PartialEq, Eq, Debug)]
+pub struct Component {
+    pub kind: Kind,
+    pub line: u8,
+    pub ratio: u16,
+    pub speeds: Vec<u16>,
+    pub torques: Vec<u16>,
+}
+
+/// The reading place: everything before `offset` has been read.
+#[derive(Clone, Copy)]
+struct Cursor<'data> {
+    data: &'data [u8],
+    offset: usize,
+}
+
+/// A field's body, and where it starts in the data.
+#[derive(Clone, Copy)]
+struct Field<'data> {
+    body: &'data [u8],
+    start: usize,
+}
+
+impl<'data> Cursor<'data> {
+    /// The field with this tag, and the cursor behind it. Within the head and
+    /// the body's extent the tests come in the order 1, 2, 3, 1.
+    fn field(
+        self,
+        tag: u8,
+        length_allowed: impl Fn(usize) -> bool,
+    ) -> Result<(Field<'data>, Cursor<'data>), Refusal> {
+        let refuse = |number| Err(Refusal::at(number, self.offset));
+        let left = &self.data[self.offset..];
+        match left.len() {
+            0 => return refuse(2),
+            1 | 2 => return refuse(1),
+            _ => {}
+        }
+        if left[0] != tag {
+            return refuse(2);
+        }
+        let length = usize::from(u16::from_be_bytes([left[1], left[2]]));
+        if !length_allowed(length) {
+            return refuse(3);
+        }
+        let Some(body) = left[3..].get(..length) else {
+            return refuse(1);
+        };
+        let start = self.offset + 3;
+        let behind = Cursor {
+            data: self.data,
+            offset: start + length,
+        };
+        Ok((Field { body, start }, behind))
+    }
+
+    /// Refusal 12 when bytes are left.
+    fn end(self) -> Result<(), Refusal> {
+        if self.offset < self.data.len() {
+            return Err(Refusal::at(12, self.offset));
+        }
+        Ok(())
+    }
+}
+
+impl Field<'_> {
+    /// The two-byte number at this place of the body, with its offset.
+    fn number(self, position: usize) -> (u16, usize) {
+        let bytes = [self.body[position], self.body[position + 1]];
+        (u16::from_be_bytes(bytes), self.start + position)
+    }
+
+    fn number_within(self, position: usize, range: &RangeInclusive<u16>) -> Result<u16, Refusal> {
+        let (number, offset) = self.number(position);
+        if !range.contains(&number) {
+            return Err(Refusal::at(4, offset));
+        }
+        Ok(number)
+    }
+
+    /// The only byte of a one-byte body.
+    fn byte_within(self, range: RangeInclusive<u8>) -> Result<u8, Refusal> {
+        let byte = self.body[0];
+        if !range.contains(&byte) {
+            return Err(Refusal::at(4, self.start));
+        }
+        Ok(byte)
+    }
+
+    /// The numbers of an axis, at each 4 before 5.
+    fn axis(self, range: &RangeInclusive<u16>) -> Result<Vec<u16>, Refusal> {
+        let mut numbers: Vec<u16> = Vec::new();
+        for position in (0..self.body.len()).step_by(2) {
+            let number = self.number_within(position, range)?;
+            if numbers.last().is_some_and(|before| number <= *before) {
+                return Err(Refusal::at(5, self.start + position));
+            }
+            numbers.push(number);
+        }
+        Ok(numbers)
+    }
+
+    fn sensor(self) -> Result<Sensor, Refusal> {
+        let ppm = 0..=10_000;
+        Ok(Sensor {
+            nominal: self.number_within(0, &(1..=50_000))?,
+            sensitivity: self.number_within(2, &ppm)?,
+            zero: self.number_within(4, &ppm)?,
+            calibration: self.number_within(6, &ppm)?,
+            advancement: self.number_within(8, &(1_000..=10_000))?,
+            parasitic: self.number_within(10, &ppm)?,
+            share: self.number_within(12, &(0..=1_000))?,
+            difference: self.number_within(14, &(0..=500))?,
+            span: self.number_within(16, &(10..=100))?,
+        })
+    }
+
+    fn rows(self) -> Vec<Row> {
+        let torque = |bytes: &[u8]| u32::from_be_bytes([bytes[0], bytes[1], bytes[2], bytes[3]]);
+        self.body
+            .chunks_exact(ROW_LENGTH)
+            .map(|row| Row {
+                input: torque(&row[..4]),
+                output: torque(&row[4..]),
+            })
+            .collect()
+    }
+}
+
+/// Reads the whole of the data: the fields in their order, then 12.
+pub fn read(data: &[u8]) -> Result<Component, Refusal> {
+    let start = Cursor { data, offset: 0 };
+    let (field, cursor) = start.field(1, |length| length == 1)?;
+    let kind_number = field.byte_within(1..=2)?;
+    let (field, cursor) = cursor.field(2, |length| length == 1)?;
+    let line = field.byte_within(1..=5)?;
+    let (field, cursor) = cursor.field(3, |length| length == 2)?;
+    let ratio = field.number_within(0, &(1_000..=20_000))?;
+    let (field, cursor) = cursor.field(4, |length| axis_length(&SPEED_RULE, length))?;
+    let speeds = field.axis(&SPEED_RULE.range)?;
+    let (field, cursor) = cursor.field(5, |length| axis_length(&TORQUE_RULE, length))?;
+    let torques = field.axis(&TORQUE_RULE.range)?;
+    if !first_torque_allowed(&torques) {
+        return Err(Refusal::at(6, field.start));
+    }
+    let (kind, cursor) = if kind_number == 1 {
+        (Kind::Standard, cursor)
+    } else {
+        read_measured(cursor, speeds.len() * torques.len())?
+    };
+    cursor.end()?;
+    Ok(Component {
+        kind,
+        line,
+        ratio,
+        speeds,
+        torques,
+    })
+}
+
+fn read_measured(cursor: Cursor<'_>, points: usize) -> Result<(Kind, Cursor<'_>), Refusal> {
+    let (field, cursor) = cursor.field(6, |length| length == SENSOR_LENGTH)?;
+    let input = field.sensor()?;
+    let (field, cursor) = cursor.field(7, |length| length == SENSOR_LENGTH)?;
+    let output = field.sensor()?;
+    let (field, cursor) = cursor.field(8, |length| length == ROW_LENGTH * points)?;
+    let kind = Kind::Measured {
+        input,
+        output,
+        rows: field.rows(),
+        rows_start: field.start,
+    };
+    Ok((kind, cursor))
+}
+
+fn axis_length(rule: &AxisRule, length: usize) -> bool {
+    length.is_multiple_of(2) && rule.count.contains(&(length / 2))
+}
+
+/// "The first torque is at most the second less the first", for rising torques.
+pub(crate) fn first_torque_allowed(torques: &[u16]) -> bool {
+    torques[0] <= torques[1] - torques[0]
+}

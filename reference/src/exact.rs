@@ -1,0 +1,360 @@
+//! Document 01, "Accuracy over whole numbers": the exact entry, the exact loss
+//! at a point, and the check of the limits of demand 3.
+//!
+//! All exact entries of one component stand over one denominator. A root that
+//! is not a whole number over it is held between two neighbouring ones.
+
+use crate::component::{Component, Kind, Row, Sensor};
+use crate::loss;
+use crate::wide::Wide;
+use std::cmp::Ordering;
+
+/// What is found of one entry or answer z against its exact value S.
+#[derive(Clone, Copy, PartialEq, Eq, Debug)]
+pub struct Verdict {
+    /// The limits are kept.
+    pub holds: bool,
+    /// The bracket is too wide to tell; then `holds` is false.
+    pub undecided: bool,
+    /// z - S in millionths of a hundredth of Nm, rounded up, S being the lower
+    /// end of its bracket. Cut to the range of its type.
+    pub excess_millionths: i64,
+}
+
+/// Limits of z - S in hundredths of Nm; the upper one is never reached.
+struct Limits {
+    lower: i128,
+    lower_may_be_reached: bool,
+    upper: i128,
+}
+
+const ENTRY_LIMITS: Limits = Limits {
+    lower: 0,
+    lower_may_be_reached: true,
+    upper: 2,
+};
+const ANSWER_LIMITS: Limits = Limits {
+    lower: 0,
+    lower_may_be_reached: true,
+    upper: 3,
+};
+const BELOW_FIRST_TORQUE_LIMITS: Limits = Limits {
+    lower: -2,
+    lower_may_be_reached: false,
+    upper: 5,
+};
+
+/// Makes the brackets narrow: over the least denominator that sensors give,
+/// 3 x 10^23, they are less than 10^-40 hundredths wide.
+const REFINEMENT: u128 = 1_000_000_000_000_000_000;
+
+/// Numerators around an exact entry; equal when it is known exactly.
+#[derive(Clone, Copy)]
+struct Bracket {
+    low: Wide,
+    high: Wide,
+}
+
+/// The exact entries of a component, in hundredths of Nm.
+pub struct ExactMap {
+    speeds: Vec<u16>,
+    torques: Vec<u16>,
+    denominator: Wide,
+    entries: Vec<Bracket>,
+}
+
+impl ExactMap {
+    /// The component must be one that the build accepts.
+    pub fn new(component: &Component) -> ExactMap {
+        let (denominator, entries) = match &component.kind {
+            Kind::Standard => standard_entries(component),
+            Kind::Measured {
+                input,
+                output,
+                rows,
+                ..
+            } => measured_entries(component.ratio, input, output, rows),
+        };
+        ExactMap {
+            speeds: component.speeds.clone(),
+            torques: component.torques.clone(),
+            denominator,
+            entries,
+        }
+    }
+
+    /// Is the entry not below its exact value and less than 2 hundredths above?
+    pub fn check_entry(&self, speed_index: usize, torque_index: usize, entry: u32) -> Verdict {
+        let mut sum = WeightedSum::over(self.denominator);
+        sum.add(1, &self.entry(speed_index, torque_index));
+        sum.verdict(i128::from(entry), &ENTRY_LIMITS)
+    }
+
+    /// Does the answer keep its limits? The query must lie within the map's.
+    pub fn check_answer(&self, speed: u32, torque: u32, answer: i128) -> Verdict {
+        let speed = Shares::of(&self.speeds, 10, speed);
+        let torque = Shares::of(&self.torques, 100, torque);
+        assert!(speed.lower >= 0 && speed.upper >= 0 && torque.lower >= 0);
+        let step = u128::try_from(speed.step() * torque.step()).expect("an axis rises");
+        let mut sum = WeightedSum::over(self.denominator * step);
+        for (speed_index, speed_share) in speed.corners() {
+            for (torque_index, torque_share) in torque.corners() {
+                let corner = self.entry(speed_index, torque_index);
+                sum.add(speed_share * torque_share, &corner);
+            }
+        }
+        let below_first_torque = torque.upper < 0;
+        let limits = if below_first_torque {
+            &BELOW_FIRST_TORQUE_LIMITS
+        } else {
+            &ANSWER_LIMITS
+        };
+        sum.verdict(answer, limits)
+    }
+
+    fn entry(&self, speed_index: usize, torque_index: usize) -> Bracket {
+        self.entries[speed_index * self.torques.len() + torque_index]
+    }
+}
+
+/// The shares of a point's two neighbours on one axis, times their distance.
+struct Shares {
+    lower_index: usize,
+    lower: i128,
+    upper: i128,
+}
+
+impl Shares {
+    /// On a grid line either cell gives the same sum; this takes the first cell
+    /// that reaches the point. Below the axis it is the first cell, continued.
+    fn of(axis: &[u16], unit: i128, point: u32) -> Shares {
+        let point = i128::from(point);
+        let position = |index: usize| unit * i128::from(axis[index]);
+        let lower_index = (0..axis.len() - 1)
+            .find(|index| point <= position(index + 1))
+            .expect("the query lies within the map's limits");
+        Shares {
+            lower_index,
+            lower: position(lower_index + 1) - point,
+            upper: point - position(lower_index),
+        }
+    }
+
+    fn step(&self) -> i128 {
+        self.lower + self.upper
+    }
+
+    fn corners(&self) -> [(usize, i128); 2] {
+        [
+            (self.lower_index, self.lower),
+            (self.lower_index + 1, self.upper),
+        ]
+    }
+}
+
+/// A difference of two numerators, so that it may be under zero.
+#[derive(Clone, Copy)]
+struct Difference {
+    plus: Wide,
+    minus: Wide,
+}
+
+impl Difference {
+    const ZERO: Difference = Difference {
+        plus: Wide::ZERO,
+        minus: Wide::ZERO,
+    };
+
+    fn add(&mut self, weight: i128, numerator: Wide) {
+        let product = numerator * weight.unsigned_abs();
+        if weight >= 0 {
+            self.plus = self.plus + product;
+        } else {
+            self.minus = self.minus + product;
+        }
+    }
+
+    /// The number taken from `whole`, both over the denominator.
+    fn taken_from(&self, whole: i128, denominator: Wide) -> Difference {
+        let mut rest = Difference {
+            plus: self.minus,
+            minus: self.plus,
+        };
+        rest.add(whole, denominator);
+        rest
+    }
+
+    fn compare_to_zero(&self) -> Ordering {
+        self.plus.cmp(&self.minus)
+    }
+}
+
+/// A sum of brackets over a denominator, held between its two ends.
+struct WeightedSum {
+    denominator: Wide,
+    low: Difference,
+    high: Difference,
+}
+
+impl WeightedSum {
+    fn over(denominator: Wide) -> WeightedSum {
+        WeightedSum {
+            denominator,
+            low: Difference::ZERO,
+            high: Difference::ZERO,
+        }
+    }
+
+    /// A negative weight turns the sides of the bracket.
+    fn add(&mut self, weight: i128, bracket: &Bracket) {
+        let (to_low, to_high) = if weight >= 0 {
+            (bracket.low, bracket.high)
+        } else {
+            (bracket.high, bracket.low)
+        };
+        self.low.add(weight, to_low);
+        self.high.add(weight, to_high);
+    }
+
+    /// How the number stands to the sum's lower end and to its upper end.
+    fn compare(&self, number: i128) -> (Ordering, Ordering) {
+        let side = |end: &Difference| end.taken_from(number, self.denominator).compare_to_zero();
+        (side(&self.low), side(&self.high))
+    }
+
+    fn verdict(&self, answer: i128, limits: &Limits) -> Verdict {
+        // answer >= S + limit is the same as answer - limit >= S.
+        let (to_low, to_high) = self.compare(answer.saturating_sub(limits.lower));
+        let (lower_holds, lower_broken) = if limits.lower_may_be_reached {
+            (to_high.is_ge(), to_low.is_lt())
+        } else {
+            (to_high.is_gt(), to_low.is_le())
+        };
+        let (to_low, to_high) = self.compare(answer.saturating_sub(limits.upper));
+        let (upper_holds, upper_broken) = (to_low.is_lt(), to_high.is_ge());
+        let holds = lower_holds && upper_holds;
+        Verdict {
+            holds,
+            undecided: !holds && !lower_broken && !upper_broken,
+            excess_millionths: self.excess_millionths(answer),
+        }
+    }
+
+    fn excess_millionths(&self, answer: i128) -> i64 {
+        let excess = self.low.taken_from(answer, self.denominator);
+        if excess.compare_to_zero().is_lt() {
+            let magnitude = (excess.minus - excess.plus) * 1_000_000;
+            return -quotient(magnitude, self.denominator);
+        }
+        let magnitude = (excess.plus - excess.minus) * 1_000_000;
+        // Rounded up: one more than the quotient of the number just under it.
+        if magnitude == Wide::ZERO {
+            return 0;
+        }
+        quotient(magnitude - Wide::from(1), self.denominator).saturating_add(1)
+    }
+}
+
+/// The whole quotient, rounded down, by halving the interval it lies in; at
+/// most the largest number of its type.
+fn quotient(numerator: Wide, denominator: Wide) -> i64 {
+    let (mut reached, mut too_many) = (0_u128, 1_u128 << 63);
+    while too_many - reached > 1 {
+        let middle = (reached + too_many) / 2;
+        if denominator * middle <= numerator {
+            reached = middle;
+        } else {
+            too_many = middle;
+        }
+    }
+    i64::try_from(reached).expect("the interval ends at the type's largest number")
+}
+
+/// Kind 1: the exact loss of the standard rule, all speeds alike.
+fn standard_entries(component: &Component) -> (Wide, Vec<Bracket>) {
+    let fraction = |torque: u16| loss::standard_loss(component.line, component.ratio, torque);
+    let (_, denominator) = fraction(component.torques[0]);
+    let row: Vec<Bracket> = component
+        .torques
+        .iter()
+        .map(|torque| Wide::from(fraction(*torque).0))
+        .map(|numerator| Bracket {
+            low: numerator,
+            high: numerator,
+        })
+        .collect();
+    (Wide::from(denominator), row.repeat(component.speeds.len()))
+}
+
+/// Kind 2. A root in grains, over 1,000 x both sensors' denominators, is the
+/// root of 4/3 T with T whole: the root of 12 T over three times as much. A
+/// hundredth of Nm is a hundred grains, hence 300.
+fn measured_entries(
+    ratio: u16,
+    input: &Sensor,
+    output: &Sensor,
+    rows: &[Row],
+) -> (Wide, Vec<Bracket>) {
+    let input_denominator = sensor_denominator(input);
+    let output_denominator = sensor_denominator(output);
+    let grain_denominator = Wide::from(input_denominator) * output_denominator * 1_000;
+    let root_denominator = grain_denominator * 300 * REFINEMENT;
+    let input_factor = Wide::from(output_denominator) * u128::from(ratio);
+    let output_factor = Wide::from(input_denominator) * 1_000;
+    let entries = rows
+        .iter()
+        .map(|row| {
+            let total = sensor_square(input, row.input) * input_factor * input_factor
+                + sensor_square(output, row.output) * output_factor * output_factor;
+            let root = root_bracket(total * 12 * REFINEMENT * REFINEMENT);
+            measured_entry(ratio, row, root_denominator, &root)
+        })
+        .collect();
+    (root_denominator * 20_000, entries)
+}
+
+/// Loss and the part of the root above the allowance, over 20,000 times the
+/// root's denominator, because loss and allowance come in those parts.
+fn measured_entry(ratio: u16, row: &Row, root_denominator: Wide, root: &Bracket) -> Bracket {
+    let loss = loss::measured_loss(ratio, row).expect("the build accepts the component");
+    let allowance = root_denominator * loss::allowance(loss);
+    let entry = |root: Wide| {
+        let above_allowance = (root * 20_000).max(allowance) - allowance;
+        root_denominator * (20 * loss) + above_allowance
+    };
+    Bracket {
+        low: entry(root.low),
+        high: entry(root.high),
+    }
+}
+
+/// A sensor's a, b, g and h in grains are whole over this.
+fn sensor_denominator(sensor: &Sensor) -> u128 {
+    100_000 * u128::from(sensor.span) * u128::from(sensor.advancement)
+}
+
+/// aa + bb + 3gg + hh, unrounded, over the square of the sensor's denominator.
+fn sensor_square(sensor: &Sensor, torque: u32) -> Wide {
+    let torque = u128::from(torque);
+    let nominal = u128::from(sensor.nominal);
+    let difference = u128::from(sensor.difference);
+    let span = u128::from(sensor.span);
+    let advancement = u128::from(sensor.advancement);
+    let square = |part: u128| Wide::from(part) * part;
+    let a = u128::from(sensor.sensitivity) * difference * torque * advancement;
+    let b = u128::from(sensor.zero) * difference * nominal * 100 * advancement;
+    let g = u128::from(sensor.calibration) * nominal * 10 * 100_000 * span;
+    let h = u128::from(sensor.parasitic) * u128::from(sensor.share) * nominal * span * advancement;
+    square(a) + square(b) + square(g) * 3 + square(h)
+}
+
+/// The root of a whole number between whole numbers.
+fn root_bracket(square: Wide) -> Bracket {
+    let low = square.square_root();
+    let high = if low * low == square {
+        low
+    } else {
+        low + Wide::from(1)
+    };
+    Bracket { low, high }
+}

@@ -1,0 +1,23 @@
+//! Second implementation of document 01, "Axle loss maps", written from the
+//! rule book alone. It renders the whole of it, for checks by running.
+//! Beside it: a generator of component data and questions, and what it takes to
+//! compare the answers with those of the proved libraries.
+
+pub mod component;
+pub mod exact;
+pub mod listing;
+pub mod lookup;
+pub mod loss;
+pub mod map;
+pub mod refusal;
+pub mod wide;
+
+pub mod cases;
+pub mod data;
+pub mod faults;
+pub mod lent_maps;
+pub mod questions;
+pub mod random;
+pub mod reply;
+pub mod stored;
+pub mod valid;

@@ -1,0 +1,171 @@
+//! Document 01, "Loss at a point and nearest point", with refusals 22, 20, 21.
+
+use crate::component::{first_torque_allowed, AxisRule, SPEED_RULE, TORQUE_RULE};
+use crate::map::{Map, LARGEST_ENTRY};
+use crate::refusal::Refusal;
+
+/// Query speed is in tenths of rpm, an axis speed in rpm.
+const SPEED_UNIT: i128 = 10;
+/// Query torque is in hundredths of Nm, an axis torque in Nm.
+const TORQUE_UNIT: i128 = 100;
+
+/// The places of an axis; only the first `count` mean something.
+#[derive(Clone, PartialEq, Eq, Debug)]
+pub struct Axis {
+    pub numbers: Vec<u16>,
+    pub count: usize,
+}
+
+/// What a caller lends as a map. Nothing is known of it until it is tested.
+#[derive(Clone, PartialEq, Eq, Debug)]
+pub struct LentMap {
+    pub speeds: Axis,
+    pub torques: Axis,
+    pub entries: Vec<u32>,
+}
+
+impl LentMap {
+    /// A built map's axes, padded with zeros to 32 and 64 places, over these
+    /// entries.
+    pub fn of(map: &Map, entries: Vec<u32>) -> LentMap {
+        LentMap {
+            speeds: padded(&map.speeds, &SPEED_RULE),
+            torques: padded(&map.torques, &TORQUE_RULE),
+            entries,
+        }
+    }
+}
+
+fn padded(numbers: &[u16], rule: &AxisRule) -> Axis {
+    let mut places = numbers.to_vec();
+    places.resize(*rule.count.end(), 0);
+    Axis {
+        numbers: places,
+        count: numbers.len(),
+    }
+}
+
+/// The axis's numbers, if they keep the rules of their tag.
+fn tested_axis<'axis>(axis: &'axis Axis, rule: &AxisRule) -> Option<&'axis [u16]> {
+    let numbers = axis.numbers.get(..axis.count)?;
+    let keeps_rules = rule.count.contains(&axis.count)
+        && numbers.iter().all(|number| rule.range.contains(number))
+        && numbers.windows(2).all(|pair| pair[0] < pair[1]);
+    keeps_rules.then_some(numbers)
+}
+
+/// Refusal 22 for the axes alone; the speeds and the torques that count.
+pub fn test_axes(map: &LentMap) -> Result<(&[u16], &[u16]), Refusal> {
+    let refusal = Refusal::at(22, 0);
+    let speeds = tested_axis(&map.speeds, &SPEED_RULE).ok_or(refusal)?;
+    let torques = tested_axis(&map.torques, &TORQUE_RULE).ok_or(refusal)?;
+    if !first_torque_allowed(torques) {
+        return Err(refusal);
+    }
+    Ok((speeds, torques))
+}
+
+/// A lent map that has passed 22: the numbers and entries that count.
+pub struct TestedMap<'map> {
+    pub speeds: &'map [u16],
+    pub torques: &'map [u16],
+    pub entries: &'map [u32],
+}
+
+/// Refusal 22 for the whole map.
+pub fn test_map(map: &LentMap) -> Result<TestedMap<'_>, Refusal> {
+    let refusal = Refusal::at(22, 0);
+    let (speeds, torques) = test_axes(map)?;
+    let entries = map
+        .entries
+        .get(..speeds.len() * torques.len())
+        .ok_or(refusal)?;
+    if entries.iter().any(|entry| *entry > LARGEST_ENTRY) {
+        return Err(refusal);
+    }
+    Ok(TestedMap {
+        speeds,
+        torques,
+        entries,
+    })
+}
+
+/// A query number among its axis: the place of the lower neighbour, and the
+/// distances to both neighbours, the lower one negative below the axis.
+struct Neighbours {
+    lower: usize,
+    from_lower: i128,
+    to_upper: i128,
+}
+
+impl Neighbours {
+    /// The last cell whose lower end is not above the number, or the first.
+    fn of(axis: &[u16], unit: i128, number: i128) -> Neighbours {
+        let last_cell = axis.len() - 2;
+        let lower = (0..=last_cell)
+            .rev()
+            .find(|place| i128::from(axis[*place]) * unit <= number)
+            .unwrap_or(0);
+        Neighbours {
+            lower,
+            from_lower: number - i128::from(axis[lower]) * unit,
+            to_upper: i128::from(axis[lower + 1]) * unit - number,
+        }
+    }
+
+    fn step(&self) -> i128 {
+        self.from_lower + self.to_upper
+    }
+
+    /// The line through a value at each neighbour, times the step.
+    fn line(&self, at_lower: i128, at_upper: i128) -> i128 {
+        at_lower * self.to_upper + at_upper * self.from_lower
+    }
+}
+
+/// The loss in hundredths of Nm at a speed in tenths of rpm and a torque in
+/// hundredths of Nm.
+pub fn loss(map: &LentMap, speed: u32, torque: u32) -> Result<i128, Refusal> {
+    let map = test_map(map)?;
+    let (speed, torque) = (i128::from(speed), i128::from(torque));
+    let first_speed = SPEED_UNIT * i128::from(map.speeds[0]);
+    let last_speed = SPEED_UNIT * i128::from(map.speeds[map.speeds.len() - 1]);
+    if speed < first_speed || speed > last_speed {
+        return Err(Refusal::at(20, 0));
+    }
+    let last_torque = TORQUE_UNIT * i128::from(map.torques[map.torques.len() - 1]);
+    if torque > last_torque {
+        return Err(Refusal::at(21, 0));
+    }
+    let speed = Neighbours::of(map.speeds, SPEED_UNIT, speed);
+    let torque = Neighbours::of(map.torques, TORQUE_UNIT, torque);
+    let along = |row: usize| {
+        let start = row * map.torques.len() + torque.lower;
+        let corner = |place: usize| i128::from(map.entries[place]);
+        torque.line(corner(start), corner(start + 1))
+    };
+    let numerator = speed.line(along(speed.lower), along(speed.lower + 1));
+    Ok(quotient_rounded_up(numerator, torque.step() * speed.step()))
+}
+
+/// Towards plus infinity, also under zero; the denominator is above zero.
+fn quotient_rounded_up(numerator: i128, denominator: i128) -> i128 {
+    -(-numerator).div_euclid(denominator)
+}
+
+/// The nearest speed and the nearest torque of the axes, for any query.
+pub fn nearest(map: &LentMap, speed: u32, torque: u32) -> Result<(u16, u16), Refusal> {
+    let (speeds, torques) = test_axes(map)?;
+    Ok((
+        nearest_number(speeds, SPEED_UNIT, speed),
+        nearest_number(torques, TORQUE_UNIT, torque),
+    ))
+}
+
+fn nearest_number(axis: &[u16], unit: i128, number: u32) -> u16 {
+    // Of two equally near, `min_by_key` gives the first, so the lower.
+    *axis
+        .iter()
+        .min_by_key(|candidate| (i128::from(**candidate) * unit).abs_diff(i128::from(number)))
+        .expect("a tested axis has two numbers or more")
+}

@@ -1,0 +1,99 @@
+//! Document 01, the build: "Standard loss", "Measured loss" and the order of
+//! "Refusals" after the fields: 12, then 11, then the rows 7, 7, 8, 9, 10.
+
+use crate::component::{self, Component, Kind, Row, Sensor};
+use crate::loss;
+use crate::refusal::Refusal;
+
+/// The largest entry, in hundredths of Nm.
+pub(crate) const LARGEST_ENTRY: u32 = 10_000_000;
+
+/// How far an output torque may be from its axis torque, in hundredths of Nm.
+const LARGEST_DISTANCE: u32 = 500;
+
+/// A built map. Entries in hundredths of Nm, speeds outer, torques inner.
+#[derive(Clone, PartialEq, Eq, Debug)]
+pub struct Map {
+    pub speeds: Vec<u16>,
+    pub torques: Vec<u16>,
+    pub entries: Vec<u32>,
+}
+
+/// Builds the map of the data into so many lent entries.
+pub fn build(data: &[u8], lent_entries: usize) -> Result<Map, Refusal> {
+    let component = component::read(data)?;
+    let needed = component.speeds.len() * component.torques.len();
+    if lent_entries < needed {
+        return Err(Refusal::at(11, needed));
+    }
+    let entries = match &component.kind {
+        Kind::Standard => standard_entries(&component),
+        Kind::Measured {
+            input,
+            output,
+            rows,
+            rows_start,
+        } => measured_entries(&component, input, output, rows, *rows_start)?,
+    };
+    Ok(Map {
+        speeds: component.speeds,
+        torques: component.torques,
+        entries,
+    })
+}
+
+/// Refusal 10 cannot come here, so that no row's offset is missed: the largest
+/// entry is HRT's at ratio 20.000 and 50,000 Nm, 9,000 + 40,000 + 263,158 =
+/// 312,158 hundredths (rounded up), far under 10,000,000.
+fn standard_entries(component: &Component) -> Vec<u32> {
+    let row: Vec<u32> = component
+        .torques
+        .iter()
+        .map(|torque| loss::standard_entry(component.line, component.ratio, *torque))
+        .map(|entry| u32::try_from(entry).expect("a standard entry is at most 312,158"))
+        .collect();
+    row.repeat(component.speeds.len())
+}
+
+fn measured_entries(
+    component: &Component,
+    input: &Sensor,
+    output: &Sensor,
+    rows: &[Row],
+    rows_start: usize,
+) -> Result<Vec<u32>, Refusal> {
+    let mut entries = Vec::with_capacity(rows.len());
+    for (index, row) in rows.iter().enumerate() {
+        let place = rows_start + 8 * index;
+        let axis_torque = component.torques[index % component.torques.len()];
+        test_row(row, input, output, axis_torque, place)?;
+        let entry = loss::measured_entry(component.ratio, input, output, row)
+            .ok_or(Refusal::at(9, place))?;
+        if entry > u128::from(LARGEST_ENTRY) {
+            return Err(Refusal::at(10, place));
+        }
+        entries.push(u32::try_from(entry).expect("an entry is at most 10,000,000"));
+    }
+    Ok(entries)
+}
+
+/// Refusals 7, 7 and 8 of a row at this place.
+fn test_row(
+    row: &Row,
+    input: &Sensor,
+    output: &Sensor,
+    axis_torque: u16,
+    place: usize,
+) -> Result<(), Refusal> {
+    let output_place = place + 4;
+    if row.input > 100 * u32::from(input.nominal) {
+        return Err(Refusal::at(7, place));
+    }
+    if row.output > 100 * u32::from(output.nominal) {
+        return Err(Refusal::at(7, output_place));
+    }
+    if row.output.abs_diff(100 * u32::from(axis_torque)) > LARGEST_DISTANCE {
+        return Err(Refusal::at(8, output_place));
+    }
+    Ok(())
+}

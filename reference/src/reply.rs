@@ -1,0 +1,216 @@
+//! What a case is answered by the rules, as the text that `vectors` writes; and a tally of what was seen.
+
+use crate::cases::Case;
+use crate::component::{self, Component, Kind, Sensor};
+use crate::exact::{ExactMap, Verdict};
+use crate::listing::{listing, report};
+use crate::lookup::{self, LentMap};
+use crate::map::{self, Map};
+use crate::questions::Question;
+use crate::refusal::Refusal;
+use std::collections::{BTreeMap, BTreeSet};
+use std::fmt::Write;
+
+/// The largest and the smallest excess over the exact value, in millionths of a hundredth of Nm.
+#[derive(Default)]
+pub struct Excess {
+    pub checked: u64,
+    pub outside: u64,
+    pub smallest: i64,
+    pub largest: i64,
+}
+
+impl Excess {
+    fn add(&mut self, verdict: Verdict) {
+        self.checked += 1;
+        self.outside += u64::from(!verdict.holds);
+        self.smallest = self.smallest.min(verdict.excess_millionths);
+        self.largest = self.largest.max(verdict.excess_millionths);
+    }
+}
+
+/// How often what occurred.
+#[derive(Default)]
+pub struct Seen {
+    pub cases: BTreeMap<char, u64>,
+    pub refusals: BTreeMap<u8, u64>,
+    pub places: BTreeMap<u8, BTreeSet<usize>>,
+    pub standard_maps: u64,
+    pub measured_maps: u64,
+    pub losses: u64,
+    pub negative_losses: u64,
+    pub entries: Excess,
+    pub answers: Excess,
+    pub answers_below: Excess,
+}
+
+impl Seen {
+    fn refused(&mut self, refusal: Refusal) -> String {
+        *self.refusals.entry(refusal.number).or_default() += 1;
+        let places = self.places.entry(refusal.number).or_default();
+        if places.len() < 1_000 {
+            places.insert(refusal.place);
+        }
+        format!("refused {} at {}\n", refusal.number, refusal.place)
+    }
+}
+
+/// The answer to a case, without the line of its number.
+pub fn reply(case: &Case, seen: &mut Seen) -> Vec<u8> {
+    *seen.cases.entry(case.letter()).or_default() += 1;
+    match case {
+        Case::Read(data) => match component::read(data) {
+            Ok(component) => component_line(&component).into_bytes(),
+            Err(refusal) => seen.refused(refusal).into_bytes(),
+        },
+        Case::Program(data) => report(data),
+        Case::Build {
+            data,
+            entries,
+            room,
+            questions,
+        } => build_reply(data, *entries, *room, questions, seen),
+        Case::Map {
+            map,
+            room,
+            questions,
+        } => map_reply(map, *room, questions, None, seen),
+    }
+}
+
+/// Whatever is lent and is no part of the answer is kept as it was.
+fn build_reply(
+    data: &[u8],
+    entries: usize,
+    room: usize,
+    questions: &[Question],
+    seen: &mut Seen,
+) -> Vec<u8> {
+    let built = match map::build(data, entries) {
+        Ok(built) => built,
+        Err(refusal) => {
+            return (seen.refused(refusal) + "entries kept\n").into_bytes();
+        }
+    };
+    let component = component::read(data).expect("a build accepts only what reads");
+    match component.kind {
+        Kind::Standard => seen.standard_maps += 1,
+        Kind::Measured { .. } => seen.measured_maps += 1,
+    }
+    let exact = ExactMap::new(&component);
+    check_entries(&exact, &built, seen);
+    let mut lent_entries = built.entries.clone();
+    lent_entries.resize(entries, 0);
+    let lent = LentMap::of(&built, lent_entries);
+    let mut text = b"entries kept\n".to_vec();
+    text.extend(map_reply(&lent, room, questions, Some(&exact), seen));
+    text
+}
+
+fn map_reply(
+    map: &LentMap,
+    room: usize,
+    questions: &[Question],
+    exact: Option<&ExactMap>,
+    seen: &mut Seen,
+) -> Vec<u8> {
+    let mut text = match listing(map, room) {
+        Ok(text) => text,
+        Err(refusal) => seen.refused(refusal).into_bytes(),
+    };
+    text.extend(b"text kept\n");
+    for question in questions {
+        text.extend(question_lines(map, *question, exact, seen).bytes());
+    }
+    text
+}
+
+/// Demand 3 for each entry of a map.
+fn check_entries(exact: &ExactMap, map: &Map, seen: &mut Seen) {
+    for (index, entry) in map.entries.iter().enumerate() {
+        let count = map.torques.len();
+        let verdict = exact.check_entry(index / count, index % count, *entry);
+        seen.entries.add(verdict);
+    }
+}
+
+/// The loss and the nearest point, with demand 3 of the loss where the map was built.
+fn question_lines(
+    map: &LentMap,
+    question: Question,
+    exact: Option<&ExactMap>,
+    seen: &mut Seen,
+) -> String {
+    let Question { speed, torque } = question;
+    let mut lines = match lookup::loss(map, speed, torque) {
+        Ok(loss) => {
+            seen.losses += 1;
+            seen.negative_losses += u64::from(loss < 0);
+            if let Some(exact) = exact {
+                let verdict = exact.check_answer(speed, torque, loss);
+                if u64::from(torque) < 100 * u64::from(map.torques.numbers[0]) {
+                    seen.answers_below.add(verdict);
+                } else {
+                    seen.answers.add(verdict);
+                }
+            }
+            format!("loss {loss}\n")
+        }
+        Err(refusal) => seen.refused(refusal),
+    };
+    lines += &match lookup::nearest(map, speed, torque) {
+        Ok((speed, torque)) => format!("nearest {speed} {torque}\n"),
+        Err(refusal) => seen.refused(refusal),
+    };
+    lines
+}
+
+fn numbers(name: &str, numbers: &[u16]) -> String {
+    let mut text = name.to_string();
+    for number in numbers {
+        let _ = write!(text, " {number}");
+    }
+    text
+}
+
+fn sensor_numbers(name: &str, sensor: &Sensor) -> String {
+    let in_order = [
+        sensor.nominal,
+        sensor.sensitivity,
+        sensor.zero,
+        sensor.calibration,
+        sensor.advancement,
+        sensor.parasitic,
+        sensor.share,
+        sensor.difference,
+        sensor.span,
+    ];
+    numbers(name, &in_order)
+}
+
+/// Component data read into numbers, as one line.
+pub fn component_line(component: &Component) -> String {
+    let kind = match component.kind {
+        Kind::Standard => 1,
+        Kind::Measured { .. } => 2,
+    };
+    let mut line = format!(
+        "kind {kind} line {} ratio {}",
+        component.line, component.ratio
+    );
+    line += &numbers(" speeds", &component.speeds);
+    line += &numbers(" torques", &component.torques);
+    if let Kind::Measured {
+        input,
+        output,
+        rows,
+        rows_start,
+    } = &component.kind
+    {
+        line += &sensor_numbers(" input", input);
+        line += &sensor_numbers(" output", output);
+        let end = rows_start + 8 * rows.len();
+        let _ = write!(line, " rows {rows_start} to {end}");
+    }
+    line + "\n"
+}

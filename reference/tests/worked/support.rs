@@ -1,0 +1,173 @@
+//! Component data written from numbers, without any test of them.
+
+use reference::lookup::{Axis, LentMap};
+use reference::map::{self, Map};
+use reference::refusal::Refusal;
+
+/// N, w, z, c, k, s, p, d, R.
+pub type SensorNumbers = [u16; 9];
+
+/// A sensor of this nominal torque without any influence.
+pub fn quiet_sensor(nominal: u16) -> SensorNumbers {
+    [nominal, 0, 0, 0, 1_000, 0, 0, 0, 10]
+}
+
+/// The numbers of component data; without rows it is of kind 1.
+#[derive(Clone)]
+pub struct Numbers {
+    pub line: u8,
+    pub ratio: u16,
+    pub speeds: Vec<u16>,
+    pub torques: Vec<u16>,
+    pub sensors: [SensorNumbers; 2],
+    pub rows: Vec<(u32, u32)>,
+}
+
+impl Numbers {
+    pub fn standard(line: u8, ratio: u16, speeds: &[u16], torques: &[u16]) -> Numbers {
+        Numbers {
+            line,
+            ratio,
+            speeds: speeds.to_vec(),
+            torques: torques.to_vec(),
+            sensors: [quiet_sensor(1); 2],
+            rows: Vec::new(),
+        }
+    }
+
+    /// Measured, with the same row at every speed for each torque.
+    pub fn measured(
+        ratio: u16,
+        torques: &[u16],
+        sensors: [SensorNumbers; 2],
+        rows: &[(u32, u32)],
+    ) -> Numbers {
+        Numbers {
+            sensors,
+            rows: rows.repeat(2),
+            ..Numbers::standard(1, ratio, &[100, 200], torques)
+        }
+    }
+
+    pub fn bytes(&self) -> Vec<u8> {
+        let kind = if self.rows.is_empty() { 1 } else { 2 };
+        let mut data = field(1, &[kind]);
+        data.extend(field(2, &[self.line]));
+        data.extend(numbers_field(3, &[self.ratio]));
+        data.extend(numbers_field(4, &self.speeds));
+        data.extend(numbers_field(5, &self.torques));
+        if kind == 2 {
+            data.extend(numbers_field(6, &self.sensors[0]));
+            data.extend(numbers_field(7, &self.sensors[1]));
+            data.extend(field(8, &rows_body(&self.rows)));
+        }
+        data
+    }
+
+    /// Where tag 8's body starts.
+    pub fn rows_start(&self) -> usize {
+        self.bytes().len() - 8 * self.rows.len()
+    }
+
+    pub fn build(&self) -> Result<Map, Refusal> {
+        map::build(&self.bytes(), self.speeds.len() * self.torques.len())
+    }
+}
+
+pub fn field(tag: u8, body: &[u8]) -> Vec<u8> {
+    let length = u16::try_from(body.len()).unwrap();
+    let mut bytes = vec![tag];
+    bytes.extend(length.to_be_bytes());
+    bytes.extend(body);
+    bytes
+}
+
+pub fn numbers_field(tag: u8, numbers: &[u16]) -> Vec<u8> {
+    let body: Vec<u8> = numbers
+        .iter()
+        .flat_map(|number| number.to_be_bytes())
+        .collect();
+    field(tag, &body)
+}
+
+fn rows_body(rows: &[(u32, u32)]) -> Vec<u8> {
+    rows.iter()
+        .flat_map(|(input, output)| [input.to_be_bytes(), output.to_be_bytes()])
+        .flatten()
+        .collect()
+}
+
+pub fn lent(map: &Map) -> LentMap {
+    LentMap::of(map, map.entries.clone())
+}
+
+pub fn lent_of(speeds: &[u16], torques: &[u16], entries: &[u32]) -> LentMap {
+    let axis = |numbers: &[u16]| Axis {
+        numbers: numbers.to_vec(),
+        count: numbers.len(),
+    };
+    LentMap {
+        speeds: axis(speeds),
+        torques: axis(torques),
+        entries: entries.to_vec(),
+    }
+}
+
+pub fn refused<T>(number: u8, place: usize) -> Result<T, Refusal> {
+    Err(Refusal { number, place })
+}
+
+/// The map program's example.
+pub fn example() -> Numbers {
+    Numbers::standard(1, 3_000, &[100, 200], &[0, 1_000])
+}
+
+/// "c 100 and k 1,000 at both sensors", one row for 3,000 Nm with this input
+/// torque and a harmless one for 6,000 Nm.
+pub fn calibrated(input: u32) -> Numbers {
+    let sensor = |nominal| [nominal, 0, 0, 100, 1_000, 0, 0, 0, 10];
+    Numbers::measured(
+        3_000,
+        &[3_000, 6_000],
+        [sensor(10_000), sensor(40_000)],
+        &[(input, 300_000), (220_000, 600_000)],
+    )
+}
+
+/// The largest map's data, standard or measured.
+pub fn largest(measured: bool) -> Numbers {
+    let speeds: Vec<u16> = (1..=32).map(|index| 90 * index).collect();
+    let torques: Vec<u16> = (0..64).map(|index| 700 * index).collect();
+    let mut numbers = Numbers::standard(5, 19_905, &speeds, &torques);
+    if measured {
+        numbers.sensors = [
+            [2_676, 5_700, 52, 178, 6_893, 47, 545, 356, 72],
+            [50_000, 311, 17, 93, 9_999, 1_001, 777, 499, 97],
+        ];
+        numbers.rows = (0..32 * 64)
+            .map(|index| {
+                let output = 100 * u32::from(torques[index % 64]);
+                let extra = 50 + u32::try_from(index).unwrap();
+                (output * 10 / 199 + extra, output)
+            })
+            .collect();
+    }
+    numbers
+}
+
+/// A plain generator of numbers, the same at every run.
+pub struct Chance(pub u64);
+
+impl Chance {
+    pub fn up_to(&mut self, largest: u64) -> u64 {
+        self.0 = self
+            .0
+            .wrapping_mul(6_364_136_223_846_793_005)
+            .wrapping_add(1_442_695_040_888_963_407);
+        (self.0 >> 33) % (largest + 1)
+    }
+
+    pub fn between(&mut self, least: u16, largest: u16) -> u16 {
+        least + u16::try_from(self.up_to(u64::from(largest - least))).unwrap()
+    }
+}
