@@ -43,7 +43,7 @@ impl Case {
     }
 
     /// A build of data with all that can be lent.
-    fn of_data(data: Vec<u8>) -> Case {
+    pub fn of_data(data: Vec<u8>) -> Case {
         Case::Build {
             data,
             entries: MOST_ENTRIES,

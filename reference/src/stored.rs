@@ -140,8 +140,9 @@ impl fmt::Display for Seen {
             ('b', "data built"),
             ('m', "maps lent"),
         ] {
-            let count = self.cases.get(&letter).copied().unwrap_or(0);
-            writeln!(f, "{name}: {count}")?;
+            if let Some(count) = self.cases.get(&letter) {
+                writeln!(f, "{name}: {count}")?;
+            }
         }
         writeln!(
             f,

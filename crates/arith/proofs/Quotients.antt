@@ -1,5 +1,5 @@
 -- How the quotient rounded up is found, and that quotients keep the order. Assumes nothing.
-use Prim.Native.Nat.{ℕ, _+_, _*_, _/_, _≤_, _<_}
+use Prim.Native.Nat.{ℕ, _+_, _*_, _-_, _/_, _≤_, _<_}
 use mathlib.Core.Path.{_≡_, sym}
 use native.Mathlib.Omega.{arith}
 use native.Mathlib.Nat.{div-mul-le-self, lt-div-mul-add}
@@ -20,6 +20,10 @@ quotientUp-inexact n d h t = is-quotientUp h (record { not-below = omega (arith,
 -- and without one it is the same
 pub quotientUp-exact : (n d : ℕ) → 0 < d → n ≤ n / d * d → n / d ≡ quotientUp n d
 quotientUp-exact n d h t = is-quotientUp h (record { not-below = t; near = omega (arith, div-mul-le-self n d) })
+
+-- the quotient of the sum with one less than the divisor, rounded down
+pub quotientUp-sum : (n d : ℕ) → 0 < d → (n + (d - 1)) / d ≡ quotientUp n d
+quotientUp-sum n d h = is-quotientUp h (record { not-below = omega (arith, lt-div-mul-add {a = n + (d - 1)} h); near = omega (arith, div-mul-le-self (n + (d - 1)) d) })
 
 pub quotientUp-monotone : (m n d : ℕ) → 0 < d → m ≤ n → quotientUp m d ≤ quotientUp n d
 quotientUp-monotone m n d h l = quotientUp-least (quotientUp-law m d h) (quotientUp n d) (omega (arith, quotientUp-law n d h .not-below))

@@ -16,11 +16,24 @@ pub fn quotient_up(n: u64, d: u64) -> u64
     if q * d < n { q + 1 } else { q }
 }
 
-// The root of n rounded up: a near guess, corrected and tested; bisection where the test fails.
+// The root of n rounded up: a near guess, tested.
 pub fn root_up(n: u64) -> u64
     ensures { λ r. ⌜ r ≡ rootUp n ⌝ }
 {
-    let candidate = corrected(n, near_root(n));
+    let near = near_root(n);
+    if is_root_up(n, near) {
+        near
+    } else {
+        root_up_about(n, near)
+    }
+}
+
+// The root of n rounded up, from a guess that is not it: one step from it, tested; bisection where that is not it either.
+fn root_up_about(n: u64, near: u64) -> u64
+    requires { ⌜ (0 < near) × (near < 4294967295) ⌝ }
+    ensures { λ r. ⌜ r ≡ rootUp n ⌝ }
+{
+    let candidate = corrected(n, near);
     if is_root_up(n, candidate) {
         candidate
     } else {

@@ -218,15 +218,17 @@ pub fn grid_valid(grid: Grid) -> bool
     )
 }
 
-// The first count entries joined by `|`: at least each of them.
+// The first count entries joined by `|`: at least each of them. Both halves are joined at once, which is quicker; the middle one of an odd count stands in both.
 fn joined(entries: &[u32], count: usize) -> u32
     requires { ⌜ count ≤ length (now entries) ⌝ }
     ensures { λ r. ⌜ ((k : ℕ) → k < count → getD (now (entries .entry)) k 0 ≤ r) ⌝ }
 {
+    let half = count / 2;
+    let rest = count - half;
     let mut all: u32 = 0;
     let mut i: usize = 0;
-    while i < count {
-        all = all | entries[i];
+    while i < rest {
+        all = all | entries[i] | entries[half + i];
         i += 1;
     }
     all

@@ -282,8 +282,8 @@ fn write_rows(
     next
 }
 
-// Writes the listing of a map that is lent in parts, where the text has room for it.
-fn write_parts(
+// Writes the listing of a map that keeps its rules, where the text has room for it.
+fn write_valid(
     speeds: &[u16; 32],
     speed_count: usize,
     torques: &[u16; 64],
@@ -321,16 +321,7 @@ pub fn write(grid: Grid, entries: &[u32], text: &mut [u8]) -> ListingAnswer
 {
     let speeds = grid.speeds;
     let torques = grid.torques;
-    if !map_parts_valid(
-        &speeds.numbers,
-        speeds.count,
-        &torques.numbers,
-        torques.count,
-        entries,
-    ) {
-        return ListingAnswer::Refused(Refusal::NotAMap);
-    }
-    write_parts(
+    write_in_parts(
         &speeds.numbers,
         speeds.count,
         &torques.numbers,
@@ -338,6 +329,24 @@ pub fn write(grid: Grid, entries: &[u32], text: &mut [u8]) -> ListingAnswer
         entries,
         text,
     )
+}
+
+// The same over a grid that is lent in parts.
+pub fn write_in_parts(
+    speeds: &[u16; 32],
+    speed_count: usize,
+    torques: &[u16; 64],
+    torque_count: usize,
+    entries: &[u32],
+    text: &mut [u8],
+) -> ListingAnswer
+    ensures { λ r. ⌜ listingAnswerOf r ≡ listed (gridOf (now (speeds .entry)) «speed_count» (now (torques .entry)) «torque_count») (now (entries .entry)) (length (now (text .entry))) ⌝ }
+    ensures { λ r. ⌜ now (text .exit) ≡ contentOf (listingAnswerOf r) (listing (gridOf (now (speeds .entry)) «speed_count» (now (torques .entry)) «torque_count») (now (entries .entry))) (now (text .entry)) ⌝ }
+{
+    if !map_parts_valid(speeds, speed_count, torques, torque_count, entries) {
+        return ListingAnswer::Refused(Refusal::NotAMap);
+    }
+    write_valid(speeds, speed_count, torques, torque_count, entries, text)
 }
 
 // Writes the line of a refusal by its number and place.

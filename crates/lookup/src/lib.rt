@@ -56,7 +56,7 @@ pub fn loss(grid: Grid, entries: &[u32], speed: u32, torque: u32) -> LossAnswer
 }
 
 // The same over a grid that is lent in parts.
-fn loss_in_parts(
+pub fn loss_in_parts(
     speeds: &[u16; 32],
     speed_count: usize,
     torques: &[u16; 64],
@@ -223,7 +223,7 @@ pub fn nearest(grid: Grid, speed: u32, torque: u32) -> NearestAnswer
 }
 
 // The same over a grid that is lent in parts.
-fn nearest_in_parts(
+pub fn nearest_in_parts(
     speeds: &[u16; 32],
     speed_count: usize,
     torques: &[u16; 64],

@@ -4,6 +4,7 @@ ghost use mathlib.Core.Path.{_≡_};
 ghost use Prim.Native.Nat.{_+_, _-_, _*_, _≤_, _<_, _^_};
 ghost use Rattle.loss.specs.Rounding.{Same};
 ghost use Rattle.arith.specs.Fraction.{_over_};
+ghost use Rattle.arith.specs.Quotient.{quotientUp};
 ghost use Rattle.loss.specs.Standard.{lineOf, Usable, standardEntry};
 ghost use Rattle.loss.specs.Measured.{InRange, fixedParts, sensorUncertainty, sensorSteps, scaledUncertainty, sumOfSquares, lossUncertainty, allowance, LossSays, entryOf};
 
@@ -100,6 +101,14 @@ pub struct Steps {
     pub uncertainty: u64,
 }
 
+// n / d rounded up, where the sum fits.
+fn rounded_up(n: u64, d: u64) -> u64
+    requires { ⌜ (0 < d) × (n + d ≤ 2 ^ 64) ⌝ }
+    ensures { λ r. ⌜ r ≡ quotientUp n d ⌝ }
+{
+    (n + (d - 1)) / d
+}
+
 // A product of three numbers of a sensor and its torque.
 fn product(a: u16, b: u16, c: u32) -> u64
     ensures { λ r. ⌜ r ≡ a * b * c ⌝ }
@@ -142,7 +151,7 @@ fn sensor_uncertainty(a: u64, b: u64, g: u64, h: u64) -> u64
     ensures { λ r. ⌜ (r ≡ sensorUncertainty a b g h) × (r ≤ 43000000) ⌝ }
 {
     let squares = square_of_part(a) + square_of_part(b) + 3 * square_of_part(g) + square_of_part(h);
-    arith::root_up(arith::quotient_up(4 * squares, 3))
+    arith::root_up(rounded_up(4 * squares, 3))
 }
 
 // The steps of a sensor at a torque in hundredths; fixed are its fixed parts.
@@ -150,7 +159,7 @@ pub fn sensor_steps(sensor: Sensor, fixed: FixedParts, torque: u32) -> Steps
     requires { ⌜ InRange sensor × (fixed ≡ fixedParts sensor) × (torque ≤ 5000000) ⌝ }
     ensures { λ r. ⌜ (r ≡ sensorSteps sensor torque) × (r .uncertainty ≤ 43000000) ⌝ }
 {
-    let a = arith::quotient_up(
+    let a = rounded_up(
         product(sensor.sensitivity, sensor.difference, torque),
         100000 * (sensor.span as u64),
     );
@@ -172,7 +181,7 @@ pub fn scaled_uncertainty(factor: u16, uncertainty: u64) -> u64
     requires { ⌜ (factor ≤ 20000) × (uncertainty ≤ 43000000) ⌝ }
     ensures { λ r. ⌜ (r ≡ scaledUncertainty factor uncertainty) × (r ≤ 860000000) ⌝ }
 {
-    arith::quotient_up(uncertainty * (factor as u64), 1000)
+    rounded_up(uncertainty * (factor as u64), 1000)
 }
 
 // The loss uncertainty in grains: the least whole number whose square is at least the sum of the squares.
@@ -241,5 +250,5 @@ pub fn measured_entry(ratio: u16, input: u32, output: u32, uncertainty: u64) -> 
 {
     let allowed = allowance(ratio, input, output);
     let gained = 20 * at_ratio(input, ratio) + part_above(200 * uncertainty, allowed);
-    arith::quotient_up(part_above(gained, 20000 * (output as u64)), 20000)
+    rounded_up(part_above(gained, 20000 * (output as u64)), 20000)
 }

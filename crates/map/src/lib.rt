@@ -88,7 +88,7 @@ fn uncertainty(bench: Bench, input: u32, output: u32) -> u64
     let at_output = loss::sensor_steps(output_parts.sensor, output_parts.fixed, output);
     let parts = [
         loss::scaled_uncertainty(bench.ratio, at_input.uncertainty),
-        loss::scaled_uncertainty(1000, at_output.uncertainty),
+        at_output.uncertainty,
     ];
     loss::loss_uncertainty(&parts)
 }

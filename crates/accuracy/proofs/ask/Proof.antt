@@ -1,3 +1,4 @@
+-- `accuracy::ask` meets its contract. Assumes nothing.
 use Rattle.layout.specs.Rules.{AreBytes}
 use Rattle.accuracy.proofs.Asking.{asks}
 use borrow.Author.Needs.{needs}

@@ -1,4 +1,4 @@
--- `arith::root_up` meets its contract: by the test, or by bisection. Assumes nothing.
+-- `arith::root_up` meets its contract: by the test, or from one step away. Assumes nothing.
 use borrow.Author.Needs.{needs}
 use Rattle.arith.proofs.root_up.Statement.{statement}
 use Rattle.arith.proofs.root_up.Tie as tie
@@ -6,14 +6,11 @@ use Rattle.arith.proofs.root_up.Tie as tie
 near-root-requires : tie.Need-near-root-requires
 near-root-requires c κs = search needs
 
-corrected-requires : tie.Need-corrected-requires
-corrected-requires c κs = search needs
-
 is-root-up-requires : tie.Need-is-root-up-requires
 is-root-up-requires c κs = search needs
 
-root-up-by-bisection-requires : tie.Need-root-up-by-bisection-requires
-root-up-by-bisection-requires c κs = search needs
+root-up-about-requires : tie.Need-root-up-about-requires
+root-up-about-requires c κs = search needs
 
 returns : tie.Need-returns
 returns c = c .before .is-root-up .ensures (c .if1 .taken)
@@ -26,8 +23,7 @@ root-up-spec =
     tie.close
     (tie.spec
     near-root-requires
-    corrected-requires
     is-root-up-requires
-    root-up-by-bisection-requires
+    root-up-about-requires
     returns
     returns-2)

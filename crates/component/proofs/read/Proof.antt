@@ -1,3 +1,4 @@
+-- `component::read` meets its contract. Assumes nothing.
 use native.Mathlib.Omega.{arith}
 use Rattle.component.proofs.Readings.{points, points-most, axle-refused, axes-refused, kind-refused, bytes-left, all-read, refused-reading}
 use borrow.Author.Needs.{needs}

@@ -1,3 +1,4 @@
+-- `component::read_axes` meets its contract. Assumes nothing.
 use native.Mathlib.Omega.{arith}
 use lib.Seq.{length-take-le}
 use Rattle.component.proofs.Readings.{no-counts}

@@ -1,3 +1,4 @@
+-- `component::read_axle` meets its contract. Assumes nothing.
 use Rattle.component.specs.Component.{axleFields}
 use borrow.Author.Needs.{needs}
 use Rattle.component.proofs.read_axle.Statement.{statement}

@@ -1,3 +1,4 @@
+-- `component::read_kind` meets its contract. Assumes nothing.
 use mathlib.Core.Path.{_∙_}
 use borrow.Author.Tests.{eq-eqb, ne-eqb}
 use Rattle.component.specs.Component.{kindFields}

@@ -1,3 +1,4 @@
+-- `component::read_measured` meets its contract. Assumes nothing.
 use Rattle.component.specs.Component.{measuredFields, rows}
 use Rattle.component.proofs.Heads.{inside, head-refused, body-accepted}
 use mathlib.Core.Path.{refl}

@@ -1,3 +1,4 @@
+-- `grid::within` meets its contract. Assumes nothing.
 use mathlib.Core.Path.{refl}
 use Rattle.grid.specs.Axis.{within}
 use Rattle.grid.proofs.within.Statement.{statement}

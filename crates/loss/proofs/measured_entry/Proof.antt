@@ -28,13 +28,13 @@ mul-part-above-2 c = search needs
 part-above-requires-2 : tie.Need-part-above-requires-2
 part-above-requires-2 c κs = search needs
 
-quotient-up-requires : tie.Need-quotient-up-requires
-quotient-up-requires c κs = search needs
+rounded-up-requires : tie.Need-rounded-up-requires
+rounded-up-requires c κs = search needs
 
 returns : tie.Need-returns
 returns c =
     found-entry _ _ _ _ (c .before .before .before .at-ratio .ensures .0) _ _ _ _ _
-    (c .before .before .before .before .allowance .ensures .0) (c .before .before .part-above .ensures) (c .before .part-above2 .ensures) (c .quotient-up .ensures)
+    (c .before .before .before .before .allowance .ensures .0) (c .before .before .part-above .ensures) (c .before .part-above2 .ensures) (c .rounded-up .ensures)
 
 pub measured-entry-spec : {M : Type 1} → statement M
 measured-entry-spec =
@@ -48,5 +48,5 @@ measured-entry-spec =
     add-gained
     mul-part-above-2
     part-above-requires-2
-    quotient-up-requires
+    rounded-up-requires
     returns)

@@ -1,5 +1,7 @@
 -- `loss::sensor_steps` meets its contract: a sensor in its ranges has small parts. Assumes nothing.
 use mathlib.Core.Path.{_≡_}
+use native.Mathlib.Omega.{arith}
+use native.Mathlib.Nat.{mul-le-mul}
 use Rattle.loss.specs.Measured.{grainsUp, temperatureOnSensitivity}
 use Rattle.loss.proofs.Parts.{fixed-at-most, sensitivity-at-most, steps-made}
 use borrow.Author.Needs.{needs}
@@ -9,16 +11,18 @@ use Rattle.loss.proofs.sensor_steps.Tie as tie
 product-requires : tie.Need-product-requires
 product-requires c κs = search needs
 
-cast-quotient-up : tie.Need-cast-quotient-up
-cast-quotient-up c = search needs
+cast-rounded-up : tie.Need-cast-rounded-up
+cast-rounded-up c = search needs
 
-mul-quotient-up : tie.Need-mul-quotient-up
-mul-quotient-up c = search needs
+mul-rounded-up : tie.Need-mul-rounded-up
+mul-rounded-up c = search needs
 
-quotient-up-requires : tie.Need-quotient-up-requires
-quotient-up-requires c κs = search needs
+rounded-up-requires : tie.Need-rounded-up-requires
+rounded-up-requires c κs =
+    let p = c .before .before .pre in
+    (omega (arith, p .0 .least-span), omega (arith, c .before .product .ensures, mul-le-mul (mul-le-mul (p .0 .sensitivity) (p .0 .difference)) (p .2)))
 
-is-part : (c : tie.After-quotient-up) → c .quotient-up .result ≡ grainsUp (temperatureOnSensitivity (c .before .before .before .args .sensor) (c .before .before .before .args .torque))
+is-part : (c : tie.After-rounded-up) → c .rounded-up .result ≡ grainsUp (temperatureOnSensitivity (c .before .before .before .args .sensor) (c .before .before .before .args .torque))
 unfolding grainsUp temperatureOnSensitivity
 is-part c = cc
 
@@ -39,8 +43,8 @@ sensor-steps-spec =
     tie.close
     (tie.spec
     product-requires
-    cast-quotient-up
-    mul-quotient-up
-    quotient-up-requires
+    cast-rounded-up
+    mul-rounded-up
+    rounded-up-requires
     sensor-uncertainty-requires
     returns)

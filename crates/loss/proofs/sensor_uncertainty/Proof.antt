@@ -30,11 +30,11 @@ square-of-part-requires-4 c κs = search needs
 add-squares-3 : tie.Need-add-squares-3
 add-squares-3 c = search needs
 
-mul-quotient-up : tie.Need-mul-quotient-up
-mul-quotient-up c = search needs
+mul-rounded-up : tie.Need-mul-rounded-up
+mul-rounded-up c = search needs
 
-quotient-up-requires : tie.Need-quotient-up-requires
-quotient-up-requires c κs = search needs
+rounded-up-requires : tie.Need-rounded-up-requires
+rounded-up-requires c κs = search needs
 
 root-up-requires : tie.Need-root-up-requires
 root-up-requires c κs = search needs
@@ -60,7 +60,7 @@ sensor-uncertainty-spec =
     add-squares-2
     square-of-part-requires-4
     add-squares-3
-    mul-quotient-up
-    quotient-up-requires
+    mul-rounded-up
+    rounded-up-requires
     root-up-requires
     returns)

@@ -1,3 +1,4 @@
+-- `map::answer_of` meets its contract. Assumes nothing.
 use borrow.Author.Needs.{needs}
 use Rattle.map.proofs.answer_of.Statement.{statement}
 use Rattle.map.proofs.answer_of.Tie as tie

@@ -1,3 +1,4 @@
+-- `map::build_points` meets its contract. Assumes nothing.
 use denote.Ref.{now}
 use Rattle.layout.specs.Rules.{AreBytes}
 use native.Mathlib.Omega.{arith}

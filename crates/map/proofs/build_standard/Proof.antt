@@ -1,3 +1,4 @@
+-- `map::build_standard` meets its contract. Assumes nothing.
 use mathlib.Core.Path.{refl}
 use denote.Ref.{now}
 use Rattle.map.specs.Answers.{standardRow}

@@ -1,3 +1,4 @@
+-- `map::build_with` meets its contract. Assumes nothing.
 use Rattle.map.proofs.WholeBuild.{reading-refused, reading-accepted, entries-built}
 use borrow.Author.Needs.{needs}
 use Rattle.map.proofs.build_with.Statement.{statement}

@@ -1,3 +1,4 @@
+-- `map::fill_rows` meets its contract. Assumes nothing.
 use Prim.Native.Nat.{_+_, _-_, _*_, _≤_}
 use mathlib.Core.Path.{sym, _∙_}
 use native.Mathlib.Omega.{arith}

@@ -1,3 +1,4 @@
+-- `map::near_axis` meets its contract. Assumes nothing.
 use mathlib.Core.Path.{refl}
 use Rattle.map.specs.Rows.{nearAxis}
 use borrow.Author.Needs.{needs}

@@ -1,3 +1,4 @@
+-- `map::row_entry` meets its contract. Assumes nothing.
 use mathlib.Core.Path.{sym, _∙_}
 use borrow.Author.Tests.{not-true, not-false}
 use Rattle.map.proofs.RowChecks.{input-above, output-above, off-axis, negative, too-large, entry-given, entry-is}

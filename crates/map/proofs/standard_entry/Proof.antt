@@ -1,3 +1,4 @@
+-- `map::standard_entry` meets its contract. Assumes nothing.
 use native.Mathlib.Omega.{arith}
 use Rattle.map.proofs.StandardRows.{standard-most}
 use borrow.Author.Needs.{needs}

@@ -1,3 +1,4 @@
+-- `map::torque_at` meets its contract. Assumes nothing.
 use mathlib.Core.Path.{_∙_}
 use Rattle.map.proofs.Torques.{four-at}
 use borrow.Author.Needs.{needs}

@@ -1,3 +1,4 @@
+-- `map::under_zero` meets its contract. Assumes nothing.
 use mathlib.Core.Path.{sym}
 use borrow.Author.Needs.{needs}
 use Rattle.map.proofs.under_zero.Statement.{statement}

@@ -1,3 +1,4 @@
+-- `map::with_grid` meets its contract. Assumes nothing.
 use mathlib.Core.Path.{refl}
 use borrow.Author.Needs.{needs}
 use Rattle.map.proofs.with_grid.Statement.{statement}

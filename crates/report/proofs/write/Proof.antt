@@ -1,3 +1,4 @@
+-- `report::write` meets its contract. Assumes nothing.
 use Rattle.report.proofs.Laws.{refusal-reported, map-reported}
 use borrow.Author.Needs.{needs}
 use Rattle.report.proofs.write.Statement.{statement}

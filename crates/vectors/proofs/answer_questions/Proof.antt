@@ -1,17 +1,9 @@
-use Prim.Native.Nat.{_+_, _-_, _*_, _≤_, _<_, _/_}
-use mathlib.Core.Path.{_≡_}
-use lib.ListN.{length, length-set}
-use native.Mathlib.Omega.{arith}
+-- `vectors::answer_questions` meets its contract. Assumes nothing.
+use Prim.Native.Nat.{_-_, _/_}
+use lib.ListN.{length}
 use borrow.Author.Needs.{needs}
 use Rattle.vectors.proofs.answer_questions.Statement.{statement}
 use Rattle.vectors.proofs.answer_questions.Tie as tie
-use Rattle.vectors.proofs.answer_questions.Reads as reads
-use Rattle.vectors.proofs.answer_questions.Lts as lts
-use Rattle.lookup.proofs.loss.Reads as loss-reads
-use Rattle.lookup.proofs.nearest.Reads as nearest-reads
-use Rattle.vectors.proofs.number_at.Reads as number-at-reads
-use Rattle.vectors.proofs.write_loss.Reads as write-loss-reads
-use Rattle.vectors.proofs.write_nearest.Reads as write-nearest-reads
 
 abbrev Inv-loop : tie.InvT-loop
 Inv-loop grid entries questions i₀ i = Unit {0}
@@ -19,59 +11,45 @@ Inv-loop grid entries questions i₀ i = Unit {0}
 abbrev μ-loop : tie.MeasureT-loop
 μ-loop grid entries questions i₀ i = length questions / 8 - i
 
--- src/main.rt:263:5
 loop-holds : tie.Need-loop-holds Inv-loop μ-loop
 loop-holds c = search needs
 
--- src/main.rt:264:42
 mul-number-at : tie.Need-mul-number-at Inv-loop μ-loop
 mul-number-at c = search needs
 
--- src/main.rt:264:13
 number-at-requires : tie.Need-number-at-requires Inv-loop μ-loop
 number-at-requires c κs = search needs
 
--- src/main.rt:265:43
 mul-number-at-2 : tie.Need-mul-number-at-2 Inv-loop μ-loop
 mul-number-at-2 c = search needs
 
--- src/main.rt:265:43
 add-number-at : tie.Need-add-number-at Inv-loop μ-loop
 add-number-at c = search needs
 
--- src/main.rt:265:13
 number-at-requires-2 : tie.Need-number-at-requires-2 Inv-loop μ-loop
 number-at-requires-2 c κs = search needs
 
--- src/main.rt:266:20
 loss-requires : tie.Need-loss-requires Inv-loop μ-loop
 loss-requires c κs = search needs
 
--- src/main.rt:266:9
 write-loss-requires : tie.Need-write-loss-requires Inv-loop μ-loop
 write-loss-requires c κs = search needs
 
--- src/main.rt:267:23
 nearest-requires : tie.Need-nearest-requires Inv-loop μ-loop
 nearest-requires c κs = search needs
 
--- src/main.rt:267:9
 write-nearest-requires : tie.Need-write-nearest-requires Inv-loop μ-loop
 write-nearest-requires c κs = search needs
 
--- src/main.rt:268:9
 add-i : tie.Need-add-i Inv-loop μ-loop
 add-i c = search needs
 
--- src/main.rt:263:5
 loop-less : tie.Need-loop-less Inv-loop μ-loop
 loop-less c = search needs
 
--- src/main.rt:263:5
 loop-again : tie.Need-loop-again Inv-loop μ-loop
 loop-again c = search needs
 
--- src/main.rt:261:1
 returns : tie.Need-returns Inv-loop μ-loop
 returns c = search needs
 

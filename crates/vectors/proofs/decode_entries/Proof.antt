@@ -1,13 +1,11 @@
-use Prim.Native.Nat.{_+_, _-_, _*_, _≤_, _<_, _/_}
+-- `vectors::decode_entries` meets its contract. Assumes nothing.
+use Prim.Native.Nat.{_-_}
 use mathlib.Core.Path.{_≡_}
 use lib.ListN.{length, length-set}
 use native.Mathlib.Omega.{arith}
 use borrow.Author.Needs.{needs}
 use Rattle.vectors.proofs.decode_entries.Statement.{statement}
 use Rattle.vectors.proofs.decode_entries.Tie as tie
-use Rattle.vectors.proofs.decode_entries.Reads as reads
-use Rattle.vectors.proofs.decode_entries.Lts as lts
-use Rattle.vectors.proofs.number_at.Reads as number-at-reads
 
 abbrev Inv-loop : tie.InvT-loop
 Inv-loop bytes entries₀ i₀ entries i = length entries ≡ length entries₀
@@ -15,51 +13,39 @@ Inv-loop bytes entries₀ i₀ entries i = length entries ≡ length entries₀
 abbrev μ-loop : tie.MeasureT-loop
 μ-loop bytes entries₀ i₀ entries i = length entries₀ - i
 
--- src/main.rt:206:5
 loop-holds : tie.Need-loop-holds Inv-loop μ-loop
 loop-holds c = search needs
 
--- src/main.rt:208:13
 same-length : tie.Need-same-length Inv-loop μ-loop
 same-length c = search needs
 
--- src/main.rt:208:13
 returns : tie.Need-returns Inv-loop μ-loop
 returns c = search needs
 
--- src/main.rt:210:39
 mul-number-at : tie.Need-mul-number-at Inv-loop μ-loop
 mul-number-at c = search needs
 
--- src/main.rt:210:22
 number-at-requires : tie.Need-number-at-requires Inv-loop μ-loop
 number-at-requires c κs = search needs
 
--- src/main.rt:210:9
 mul-entries : tie.Need-mul-entries Inv-loop μ-loop
 mul-entries c = search needs
 
--- src/main.rt:210:9
 slice-write-entries : tie.Need-slice-write-entries Inv-loop μ-loop
 slice-write-entries c = search needs
 
--- src/main.rt:211:9
 add-i : tie.Need-add-i Inv-loop μ-loop
 add-i c = search needs
 
--- src/main.rt:206:5
 loop-less : tie.Need-loop-less Inv-loop μ-loop
 loop-less c = search needs
 
--- src/main.rt:206:5
 loop-again : tie.Need-loop-again Inv-loop μ-loop
 loop-again c = simp length-set (omega arith)
 
--- src/main.rt:204:1
 same-length-2 : tie.Need-same-length-2 Inv-loop μ-loop
 same-length-2 c = search needs
 
--- src/main.rt:204:1
 returns-2 : tie.Need-returns-2 Inv-loop μ-loop
 returns-2 c = search needs
 

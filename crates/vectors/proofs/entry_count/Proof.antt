@@ -1,24 +1,19 @@
+-- `vectors::entry_count` meets its contract. Assumes nothing.
 use native.Mathlib.Omega.{arith}
 use native.Mathlib.Nat.{mul-le-mul}
 use borrow.Author.Needs.{needs}
 use Rattle.vectors.proofs.entry_count.Statement.{statement}
 use Rattle.vectors.proofs.entry_count.Tie as tie
-use Rattle.vectors.proofs.entry_count.Reads as reads
-use Rattle.vectors.proofs.entry_count.Lts as lts
 
--- src/main.rt:288:9
 returns : tie.Need-returns
 returns c = search needs
 
--- src/main.rt:291:9
 returns-2 : tie.Need-returns-2
 returns-2 c = search needs
 
--- src/main.rt:293:5
 mul-result : tie.Need-mul-result
 mul-result c = record { fits = omega (arith, mul-le-mul (c .before .if1 .left) (c .if2 .left)) }
 
--- src/main.rt:286:1
 returns-3 : tie.Need-returns-3
 returns-3 c = search needs
 

@@ -1,12 +1,11 @@
-use Prim.Native.Nat.{_+_, _-_, _*_, _≤_, _<_, _/_}
+-- `vectors::fill_text` meets its contract. Assumes nothing.
+use Prim.Native.Nat.{_-_}
 use mathlib.Core.Path.{_≡_}
 use lib.ListN.{length, length-set}
 use native.Mathlib.Omega.{arith}
 use borrow.Author.Needs.{needs}
 use Rattle.vectors.proofs.fill_text.Statement.{statement}
 use Rattle.vectors.proofs.fill_text.Tie as tie
-use Rattle.vectors.proofs.fill_text.Reads as reads
-use Rattle.vectors.proofs.fill_text.Lts as lts
 
 abbrev Inv-loop : tie.InvT-loop
 Inv-loop text₀ i₀ text i = length text ≡ length text₀
@@ -14,31 +13,24 @@ Inv-loop text₀ i₀ text i = length text ≡ length text₀
 abbrev μ-loop : tie.MeasureT-loop
 μ-loop text₀ i₀ text i = length text₀ - i
 
--- src/main.rt:223:5
 loop-holds : tie.Need-loop-holds Inv-loop μ-loop
 loop-holds c = search needs
 
--- src/main.rt:224:9
 slice-write-text : tie.Need-slice-write-text Inv-loop μ-loop
 slice-write-text c = search needs
 
--- src/main.rt:225:9
 add-i : tie.Need-add-i Inv-loop μ-loop
 add-i c = search needs
 
--- src/main.rt:223:5
 loop-less : tie.Need-loop-less Inv-loop μ-loop
 loop-less c = search needs
 
--- src/main.rt:223:5
 loop-again : tie.Need-loop-again Inv-loop μ-loop
 loop-again c = simp length-set (omega arith)
 
--- src/main.rt:221:1
 same-length : tie.Need-same-length Inv-loop μ-loop
 same-length c = search needs
 
--- src/main.rt:221:1
 returns : tie.Need-returns Inv-loop μ-loop
 returns c = search needs
 

@@ -1,13 +1,10 @@
+-- `vectors::run` meets its contract. Assumes nothing.
 use Prim.Native.Nat.{_-_}
 use mathlib.Core.Path.{_≡_}
 use lib.ListN.{length}
-use native.Mathlib.Omega.{arith}
 use borrow.Author.Needs.{needs}
 use Rattle.vectors.proofs.run.Statement.{statement}
 use Rattle.vectors.proofs.run.Tie as tie
-use Rattle.vectors.proofs.run.Reads as reads
-use Rattle.vectors.proofs.run.Lts as lts
-use Rattle.vectors.proofs.run_case.Reads as run-case-reads
 
 abbrev Inv-loop : tie.InvT-loop
 Inv-loop body₀ entries₀ text₀ number₀ body entries text number = (length body ≡ length body₀) × (length entries ≡ length entries₀) × (length text ≡ length text₀)
@@ -15,55 +12,42 @@ Inv-loop body₀ entries₀ text₀ number₀ body entries text number = (length
 abbrev μ-loop : tie.MeasureT-loop
 μ-loop body₀ entries₀ text₀ number₀ body entries text number = 1000000000 - number
 
--- src/main.rt:414:5
 loop-holds : tie.Need-loop-holds Inv-loop μ-loop
 loop-holds c = search needs
 
--- src/main.rt:415:13
 run-case-requires : tie.Need-run-case-requires Inv-loop μ-loop
 run-case-requires c κs = search needs
 
--- src/main.rt:416:13
 same-length : tie.Need-same-length Inv-loop μ-loop
 same-length c = search needs
 
--- src/main.rt:416:13
 same-length-2 : tie.Need-same-length-2 Inv-loop μ-loop
 same-length-2 c = search needs
 
--- src/main.rt:416:13
 same-length-3 : tie.Need-same-length-3 Inv-loop μ-loop
 same-length-3 c = search needs
 
--- src/main.rt:416:13
 returns : tie.Need-returns Inv-loop μ-loop
 returns c = search needs
 
--- src/main.rt:418:9
 add-number : tie.Need-add-number Inv-loop μ-loop
 add-number c = search needs
 
--- src/main.rt:414:5
 loop-less : tie.Need-loop-less Inv-loop μ-loop
 loop-less c = search needs
 
--- src/main.rt:414:5
 loop-again : tie.Need-loop-again Inv-loop μ-loop
 loop-again c = search needs
 
--- src/main.rt:412:1
 same-length-4 : tie.Need-same-length-4 Inv-loop μ-loop
 same-length-4 c = search needs
 
--- src/main.rt:412:1
 same-length-5 : tie.Need-same-length-5 Inv-loop μ-loop
 same-length-5 c = search needs
 
--- src/main.rt:412:1
 same-length-6 : tie.Need-same-length-6 Inv-loop μ-loop
 same-length-6 c = search needs
 
--- src/main.rt:412:1
 returns-2 : tie.Need-returns-2 Inv-loop μ-loop
 returns-2 c = search needs
 

@@ -1,12 +1,9 @@
-use Prim.Native.Nat.{_+_, _-_, _*_, _≤_, _<_, _/_}
-use mathlib.Core.Path.{_≡_}
-use lib.ListN.{length, length-set}
-use native.Mathlib.Omega.{arith}
+-- `vectors::text_kept` meets its contract. Assumes nothing.
+use Prim.Native.Nat.{_-_}
+use lib.ListN.{length}
 use borrow.Author.Needs.{needs}
 use Rattle.vectors.proofs.text_kept.Statement.{statement}
 use Rattle.vectors.proofs.text_kept.Tie as tie
-use Rattle.vectors.proofs.text_kept.Reads as reads
-use Rattle.vectors.proofs.text_kept.Lts as lts
 
 abbrev Inv-loop : tie.InvT-loop
 Inv-loop text first kept₀ i₀ kept i = Unit {0}
@@ -14,27 +11,21 @@ Inv-loop text first kept₀ i₀ kept i = Unit {0}
 abbrev μ-loop : tie.MeasureT-loop
 μ-loop text first kept₀ i₀ kept i = length text - i
 
--- src/main.rt:244:5
 loop-holds : tie.Need-loop-holds Inv-loop μ-loop
 loop-holds c = search needs
 
--- src/main.rt:245:39
 shared-slice-read-kept : tie.Need-shared-slice-read-kept Inv-loop μ-loop
 shared-slice-read-kept c = search needs
 
--- src/main.rt:246:9
 add-i : tie.Need-add-i Inv-loop μ-loop
 add-i c = search needs
 
--- src/main.rt:244:5
 loop-less : tie.Need-loop-less Inv-loop μ-loop
 loop-less c = search needs
 
--- src/main.rt:244:5
 loop-again : tie.Need-loop-again Inv-loop μ-loop
 loop-again c = search needs
 
--- src/main.rt:241:1
 returns : tie.Need-returns Inv-loop μ-loop
 returns c = search needs
 

@@ -1,4 +1,4 @@
--- `listing::write_parts` meets its contract. Assumes nothing.
+-- `listing::write_valid` meets its contract. Assumes nothing.
 use native.Mathlib.Omega.{arith}
 use denote.Ref.{now}
 use Prim.Native.Nat.{_+_}
@@ -11,8 +11,8 @@ use Rattle.listing.proofs.Lengths.{length-listing}
 use Rattle.listing.proofs.Places.{placed-start, written-then}
 use Rattle.listing.proofs.Fitted.{fitted-short, fitted-whole}
 use borrow.Author.Needs.{needs}
-use Rattle.listing.proofs.write_parts.Statement.{statement}
-use Rattle.listing.proofs.write_parts.Tie as tie
+use Rattle.listing.proofs.write_valid.Statement.{statement}
+use Rattle.listing.proofs.write_valid.Tie as tie
 
 -- the bytes that the listing takes
 needed : (c : tie.After-rows-length) →
@@ -57,8 +57,8 @@ returns-2 c =
     let whole = written-then (written-then first-line (c .before .before .before .before .before .before .write-byte .ensures) (omega arith)) (c .before .before .write-rows .ensures) (simp length-append (omega arith)) in
     (fitted-whole _ _ _ (whole .after ∙ zero-add _) (omega (arith, size, whole .after)), whole .holds ∙ placed-start _ _)
 
-pub write-parts-spec : {M : Type 1} → statement M
-write-parts-spec =
+pub write-valid-spec : {M : Type 1} → statement M
+write-valid-spec =
     tie.close
     (tie.spec
     rows-length-requires

@@ -1,0 +1,28 @@
+-- An answer as C has it: the number of the refusal in document 01's table, 0 where there is none (no row of the table has the number 0), its place, and the values, which are 0 where it is refused.
+use Prim.Native.Nat.{ℕ}
+use lib.IntN.{ℤ, pos}
+use Rattle.refusal.specs.Outcome.{Outcome, accepted, refused}
+use Rattle.refusal.specs.Table.{number, place}
+use Rattle.map.specs.declared.Answer.{Answer}
+use Rattle.map.specs.declared.Answer.the-variants.{Accepted, Refused}
+use Rattle.lookup.specs.Nearest.{GridPoint}
+use Rattle.axle.specs.declared.Status.{Status}
+use Rattle.axle.specs.declared.AxleLoss.{AxleLoss}
+use Rattle.axle.specs.declared.AxleNearest.{AxleNearest}
+use Rattle.axle.specs.declared.AxleListing.{AxleListing}
+
+abbrev pub statusOf : Answer → Status
+statusOf Accepted = record { refusal = 0; place = 0 }
+statusOf (Refused x) = record { refusal = number x; place = place x }
+
+abbrev pub lossOf : Outcome ℤ → AxleLoss
+lossOf (accepted z) = record { refusal = 0; place = 0; loss = z }
+lossOf (refused t) = record { refusal = t .number; place = t .place; loss = pos 0 }
+
+abbrev pub nearestOf : Outcome GridPoint → AxleNearest
+nearestOf (accepted p) = record { refusal = 0; place = 0; speed = p .speed; torque = p .torque }
+nearestOf (refused t) = record { refusal = t .number; place = t .place; speed = 0; torque = 0 }
+
+abbrev pub listingOf : Outcome ℕ → AxleListing
+listingOf (accepted n) = record { refusal = 0; place = 0; length = n }
+listingOf (refused t) = record { refusal = t .number; place = t .place; length = 0 }

@@ -1,0 +1,112 @@
+/* Axle loss maps: the library for C, libaxle.a (x86-64).
+
+   Link with: gcc -Iinclude program.c target/staticlib/libaxle.a
+   `rt staticlib axle` proves the library and writes it.
+
+   Units. Speeds of an axis: whole rpm at the wheel. Torques of an axis: whole
+   Nm at the wheel. Entries and losses: hundredths of Nm. A question's speed:
+   tenths of rpm; its torque: hundredths of Nm.
+
+   Answers. `refusal` is 0 where the call is answered, else the number of the
+   refusal (below), and `place` its place. Values stand apart from them, and a
+   loss may be negative: test `refusal`, not the value. The values of a refused
+   answer are 0; the axes of a refused build have the counts 0, and their
+   numbers mean nothing.
+
+   Every function accepts every value that its arguments' types have: nothing
+   needs to be tested before a call. What a caller owes is memory: each pointer
+   is valid for the count beside it, an array with a fixed size in a prototype
+   has all its places, a pointer is not null even where its count is 0, and what
+   is written to overlaps nothing else that is lent. The caller owns every
+   buffer; the library keeps no pointer after a call, allocates nothing, and has
+   no state, so calls may run at the same time.
+
+   Refusals, by number, with their place:
+     1 one or two bytes left where a field head is due, or a body that runs past
+       the end; 2 another tag than the one due, or no bytes left where a field is
+       due; 3 a length that is not allowed: the head's offset
+     4 a number outside its range; 5 an axis number not above the one before;
+       6 the first torque above the first step; 7 a measured torque above its
+       sensor's nominal torque; 8 an output torque more than 5.00 Nm from its
+       axis torque: the number's offset
+     9 a measured loss under zero; 10 an entry above 10,000,000: the row's offset
+     11 fewer entries lent than speeds x torques, or too few bytes for a listing:
+       the count needed
+     12 bytes after the last field: the first such byte
+     20 a speed outside the axis; 21 a torque above the last: 0
+     22 what is lent is no map: 0 */
+#ifndef AXLE_H
+#define AXLE_H
+
+#include <stddef.h>
+#include <stdint.h>
+
+#ifdef __cplusplus
+extern "C" {
+#endif
+
+/* No map has more speeds, torques or entries, and no listing more bytes. */
+enum { AXLE_SPEEDS = 32, AXLE_TORQUES = 64, AXLE_ENTRIES = 2048, AXLE_TEXT = 65536 };
+
+typedef struct {
+    uint32_t refusal;
+    size_t place;
+    uint16_t speeds[32]; /* the first speed_count of them, rising */
+    size_t speed_count;
+    uint16_t torques[64]; /* the first torque_count of them, rising */
+    size_t torque_count;
+} axle_built;
+
+typedef struct {
+    uint32_t refusal;
+    size_t place;
+    int64_t loss; /* hundredths of Nm; may be negative below the first torque */
+} axle_loss_answer;
+
+typedef struct {
+    uint32_t refusal;
+    size_t place;
+    uint16_t speed;  /* rpm */
+    uint16_t torque; /* Nm */
+} axle_nearest_answer;
+
+typedef struct {
+    uint32_t refusal;
+    size_t place;
+    size_t length; /* bytes written */
+} axle_listing_answer;
+
+/* Builds the map of component data. Entry (speed i, torque j) is written to
+   entries[i * torque_count + j]; what stands past the last is not touched. A
+   refused build writes no entry. Refusals 1 to 12. */
+axle_built axle_build(const uint8_t *data, size_t data_length,
+                      uint32_t *entries, size_t entry_count);
+
+/* The loss at a point of a map: never below the exact loss of the data that the
+   map was built from, and less than 3 hundredths above it; below the first
+   torque more than the exact loss less 2 hundredths, and less than it plus 5.
+   Refusals 22, 20, 21. */
+axle_loss_answer axle_loss(const uint16_t speeds[32], size_t speed_count,
+                           const uint16_t torques[64], size_t torque_count,
+                           const uint32_t *entries, size_t entry_count,
+                           uint32_t speed, uint32_t torque);
+
+/* The nearest speed and the nearest torque of the axes; of two equally near, the
+   lower. Refusal 22, for the axes alone. */
+axle_nearest_answer axle_nearest(const uint16_t speeds[32], size_t speed_count,
+                                 const uint16_t torques[64], size_t torque_count,
+                                 uint32_t speed, uint32_t torque);
+
+/* Writes the listing of a map from the start of the text: a header and a line
+   for each entry, each with a line feed, no byte 0 at the end. What stands past
+   its length is not touched. A refused listing writes nothing. Refusals 22, 11. */
+axle_listing_answer axle_listing(const uint16_t speeds[32], size_t speed_count,
+                                 const uint16_t torques[64], size_t torque_count,
+                                 const uint32_t *entries, size_t entry_count,
+                                 uint8_t *text, size_t text_length);
+
+#ifdef __cplusplus
+}
+#endif
+
+#endif

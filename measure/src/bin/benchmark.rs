@@ -1,0 +1,395 @@
+//! The benchmark: the proved library beside plain Rust, the second implementation and doubles, on the same inputs in one run. It prints times and ratios.
+
+use axle::Grid;
+use measure::answers::grid_of;
+use measure::{doubles, plain, roots};
+use reference::data::{Data, Field};
+use reference::lookup::{self, LentMap};
+use reference::questions::Question;
+use reference::random::Source;
+use reference::{listing, map};
+use std::hint::black_box;
+use std::time::Instant;
+
+const ROUNDS: usize = 9;
+const ROUND_NANOSECONDS: u128 = 20_000_000;
+const QUESTIONS: usize = 512;
+
+/// A way to do the same work: one call does it so many times.
+struct Way<'work> {
+    name: &'static str,
+    times: usize,
+    work: Box<dyn FnMut() + 'work>,
+}
+
+fn way<'work>(name: &'static str, times: usize, work: impl FnMut() + 'work) -> Way<'work> {
+    Way {
+        name,
+        times,
+        work: Box::new(work),
+    }
+}
+
+fn nanoseconds(way: &mut Way, calls: usize) -> u128 {
+    let start = Instant::now();
+    for _ in 0..calls {
+        (way.work)();
+    }
+    start.elapsed().as_nanos()
+}
+
+/// The least time of one piece of work among the rounds; the ways take turns, so that they meet the same machine.
+fn times(ways: &mut [Way]) -> Vec<f64> {
+    let calls: Vec<usize> = ways
+        .iter_mut()
+        .map(|way| {
+            let once = nanoseconds(way, 3) / 3 + 1;
+            (ROUND_NANOSECONDS / once).max(1) as usize
+        })
+        .collect();
+    let mut best = vec![f64::INFINITY; ways.len()];
+    for _ in 0..ROUNDS {
+        for (i, way) in ways.iter_mut().enumerate() {
+            let spent = nanoseconds(way, calls[i]) as f64;
+            best[i] = best[i].min(spent / (calls[i] * way.times) as f64);
+        }
+    }
+    best
+}
+
+/// Prints the times, and the ratios of the first way to the others.
+fn report(what: &str, target: &str, mut ways: Vec<Way>) {
+    let best = times(&mut ways);
+    print!("{what}: library {:.1} ns", best[0]);
+    for (way, time) in ways.iter().zip(&best).skip(1) {
+        print!(", {} {time:.1} ns (ratio {:.2})", way.name, best[0] / time);
+    }
+    println!("; {target}");
+}
+
+/// Data that is built, and its map as each of the four has it.
+struct Subject {
+    data: Vec<u8>,
+    lent: LentMap,
+    grid: Grid,
+    entries: Vec<u32>,
+    doubles: Vec<f64>,
+    speeds: Vec<u16>,
+    torques: Vec<u16>,
+    questions: Vec<Question>,
+}
+
+/// Data as a bench gives it: even axes, losses of some hundredths of the torque, good sensors. With large losses the map has entries near the largest.
+fn bench_data(kind: u8, speed_count: u16, torque_count: u16, large_losses: bool) -> Vec<u8> {
+    let speeds: Vec<u16> = (1..=speed_count).map(|i| 40 * i).collect();
+    let torques: Vec<u16> = (1..=torque_count).map(|i| 400 * i).collect();
+    let mut source = Source::new(3, 3);
+    let mut rows = Vec::new();
+    for _ in &speeds {
+        for torque in &torques {
+            let output = source.between(
+                u64::from(*torque) * 100 - 300,
+                u64::from(*torque) * 100 + 300,
+            );
+            let loss = output * source.between(15, 60) / 1_000 + source.between(5_000, 20_000);
+            let loss = loss + if large_losses { 9_300_000 } else { 0 };
+            let input = (output + loss) * 1_000 / 3_700;
+            rows.extend((input as u32).to_be_bytes());
+            rows.extend((output as u32).to_be_bytes());
+        }
+    }
+    let mut fields = vec![
+        Field::new(1, vec![kind]),
+        Field::new(2, vec![1]),
+        Field::of_numbers(3, &[3_700]),
+        Field::of_numbers(4, &speeds),
+        Field::of_numbers(5, &torques),
+    ];
+    if kind == 2 {
+        fields.push(Field::of_numbers(
+            6,
+            &[40_000, 120, 90, 400, 1_500, 150, 600, 85, 45],
+        ));
+        fields.push(Field::of_numbers(
+            7,
+            &[30_000, 110, 100, 300, 1_200, 140, 500, 70, 40],
+        ));
+        fields.push(Field::new(8, rows));
+    }
+    let rest = Vec::new();
+    Data { fields, rest }.bytes()
+}
+
+fn subject(kind: u8, speed_count: u16, torque_count: u16, large_losses: bool) -> Subject {
+    let data = bench_data(kind, speed_count, torque_count, large_losses);
+    let built = map::build(&data, 2_048).expect("the data is accepted");
+    let lent = LentMap::of(&built, built.entries.clone());
+    let mut source = Source::new(1, 1);
+    let mut within = |axis: &[u16], unit: u64| {
+        let (first, last) = (u64::from(axis[0]), u64::from(axis[axis.len() - 1]));
+        source.between(unit * first, unit * last) as u32
+    };
+    let questions = (0..QUESTIONS)
+        .map(|_| Question {
+            speed: within(&built.speeds, 10),
+            torque: within(&built.torques, 100),
+        })
+        .collect();
+    Subject {
+        grid: grid_of(&lent),
+        entries: built.entries.clone(),
+        doubles: doubles::build(&data).expect("the data is accepted"),
+        speeds: built.speeds.clone(),
+        torques: built.torques.clone(),
+        questions,
+        lent,
+        data,
+    }
+}
+
+/// The four agree on what is measured, but for doubles, which may be off.
+fn check(subject: &Subject) {
+    assert_eq!(plain::build(&subject.data).as_ref(), Some(&subject.entries));
+    for question in &subject.questions {
+        let Question { speed, torque } = *question;
+        let theirs = lookup::loss(&subject.lent, speed, torque).expect("within the map");
+        let ours = axle::loss(&subject.grid, &subject.entries, speed, torque);
+        let plain = plain::loss(
+            &subject.speeds,
+            &subject.torques,
+            &subject.entries,
+            speed,
+            torque,
+        );
+        assert_eq!(ours.map(i128::from), Ok(theirs));
+        assert_eq!(plain.map(i128::from), Some(theirs));
+        let nearest = axle::nearest(&subject.grid, speed, torque).ok();
+        assert_eq!(
+            nearest,
+            plain::nearest(&subject.speeds, &subject.torques, speed, torque)
+        );
+    }
+}
+
+fn measure_roots() {
+    let mut source = Source::new(2, 2);
+    let numbers: Vec<u64> = (0..4_096)
+        .map(|_| source.below(730_000_000_000_000_000))
+        .collect();
+    let (mut ours, mut theirs, mut sheet) = (vec![0; 4_096], vec![0; 4_096], vec![0; 4_096]);
+    roots::proved(&numbers, &mut ours);
+    roots::plain(&numbers, &mut theirs);
+    assert_eq!(ours, theirs);
+    report(
+        "root rounded up",
+        "target: at most 0.8 of Rust",
+        vec![
+            way("library", 4_096, || {
+                roots::proved(black_box(&numbers), &mut ours)
+            }),
+            way("Rust", 4_096, || {
+                roots::plain(black_box(&numbers), &mut theirs)
+            }),
+            way("doubles", 4_096, || {
+                roots::doubles(black_box(&numbers), &mut sheet)
+            }),
+        ],
+    );
+}
+
+fn measure_build(what: &str, target: &str, subject: &Subject) {
+    let mut entries = vec![0; 2_048];
+    report(
+        what,
+        target,
+        vec![
+            way("library", 1, || {
+                let _ = black_box(axle::build(black_box(&subject.data), &mut entries));
+            }),
+            way("Rust", 1, || {
+                black_box(plain::build(black_box(&subject.data)));
+            }),
+            way("reference", 1, || {
+                let _ = black_box(map::build(black_box(&subject.data), 2_048));
+            }),
+            way("doubles", 1, || {
+                black_box(doubles::build(black_box(&subject.data)));
+            }),
+        ],
+    );
+}
+
+fn measure_loss(what: &str, target: &str, subject: &Subject) {
+    let Subject {
+        grid,
+        entries,
+        speeds,
+        torques,
+        ..
+    } = subject;
+    let each = |ask: &mut dyn FnMut(u32, u32)| {
+        for question in &subject.questions {
+            ask(question.speed, question.torque);
+        }
+    };
+    report(
+        what,
+        target,
+        vec![
+            way("library", QUESTIONS, || {
+                each(&mut |speed, torque| {
+                    let _ = black_box(axle::loss(grid, entries, speed, torque));
+                })
+            }),
+            way("Rust", QUESTIONS, || {
+                each(&mut |speed, torque| {
+                    black_box(plain::loss(speeds, torques, entries, speed, torque));
+                })
+            }),
+            way("reference", QUESTIONS, || {
+                each(&mut |speed, torque| {
+                    let _ = black_box(lookup::loss(&subject.lent, speed, torque));
+                })
+            }),
+            way("doubles", QUESTIONS, || {
+                each(&mut |speed, torque| {
+                    let (speed, torque) = (f64::from(speed) / 10.0, f64::from(torque) / 100.0);
+                    black_box(doubles::loss(
+                        speeds,
+                        torques,
+                        &subject.doubles,
+                        speed,
+                        torque,
+                    ));
+                })
+            }),
+        ],
+    );
+}
+
+fn measure_nearest(what: &str, subject: &Subject) {
+    let (speeds, torques) = (&subject.speeds, &subject.torques);
+    let each = |ask: &mut dyn FnMut(u32, u32)| {
+        for question in &subject.questions {
+            ask(question.speed, question.torque);
+        }
+    };
+    report(
+        what,
+        "no target",
+        vec![
+            way("library", QUESTIONS, || {
+                each(&mut |speed, torque| {
+                    let _ = black_box(axle::nearest(&subject.grid, speed, torque));
+                })
+            }),
+            way("Rust", QUESTIONS, || {
+                each(&mut |speed, torque| {
+                    black_box(plain::nearest(speeds, torques, speed, torque));
+                })
+            }),
+            way("reference", QUESTIONS, || {
+                each(&mut |speed, torque| {
+                    let _ = black_box(lookup::nearest(&subject.lent, speed, torque));
+                })
+            }),
+            way("doubles", QUESTIONS, || {
+                each(&mut |speed, torque| {
+                    let (speed, torque) = (f64::from(speed) / 10.0, f64::from(torque) / 100.0);
+                    black_box(doubles::nearest(speeds, torques, speed, torque));
+                })
+            }),
+        ],
+    );
+}
+
+fn measure_listing(what: &str, target: &str, subject: &Subject) {
+    let (speeds, torques, entries) = (&subject.speeds, &subject.torques, &subject.entries);
+    let mut text = vec![0; 65_536];
+    let (mut plain_text, mut double_text) = (Vec::new(), Vec::new());
+    let length = axle::listing(&subject.grid, entries, &mut text).expect("there is room");
+    plain::listing(speeds, torques, entries, &mut plain_text);
+    assert_eq!(text[..length], plain_text);
+    report(
+        what,
+        target,
+        vec![
+            way("library", 1, || {
+                let _ = black_box(axle::listing(&subject.grid, entries, &mut text));
+            }),
+            way("Rust", 1, || {
+                black_box(plain::listing(speeds, torques, entries, &mut plain_text));
+            }),
+            way("reference", 1, || {
+                let _ = black_box(listing::listing(&subject.lent, 65_536));
+            }),
+            way("doubles", 1, || {
+                black_box(doubles::listing(
+                    speeds,
+                    torques,
+                    &subject.doubles,
+                    &mut double_text,
+                ));
+            }),
+        ],
+    );
+}
+
+/// How many entries the doubles get wrong, of the measured map.
+fn wrong_doubles(subject: &Subject) -> usize {
+    let hundredths = subject
+        .doubles
+        .iter()
+        .map(|entry| (entry * 100.0).round() as u32);
+    hundredths
+        .zip(&subject.entries)
+        .filter(|(theirs, ours)| theirs != *ours)
+        .count()
+}
+
+fn main() {
+    let measured = subject(2, 32, 64, false);
+    let standard = subject(1, 32, 64, false);
+    let small = subject(2, 2, 2, false);
+    let large = subject(2, 32, 64, true);
+    for each in [&measured, &standard, &small, &large] {
+        check(each);
+    }
+    println!(
+        "entries of the measured map that doubles get wrong: {} of {}",
+        wrong_doubles(&measured),
+        measured.entries.len()
+    );
+    measure_roots();
+    measure_build(
+        "build, measured, 32 x 64",
+        "target: at most 0.75 of Rust, at most 1.0 of doubles",
+        &measured,
+    );
+    measure_build("build, standard, 32 x 64", "no target", &standard);
+    measure_loss(
+        "loss at a point, 32 x 64",
+        "target: at most 0.7 of Rust",
+        &measured,
+    );
+    measure_loss(
+        "loss at a point, 32 x 64, entries above 83,886.07 Nm",
+        "no target",
+        &large,
+    );
+    measure_loss(
+        "loss at a point, 2 x 2",
+        "target: at most 1.5 of Rust",
+        &small,
+    );
+    measure_nearest("nearest point, 32 x 64", &measured);
+    measure_listing("listing, 32 x 64", "target: at most 0.3 of Rust", &measured);
+    println!("how the cost grows with the grid:");
+    for (speeds, torques) in [(2, 2), (4, 8), (8, 16), (16, 32), (32, 64)] {
+        let subject = subject(2, speeds, torques, false);
+        let size = format!("{speeds} x {torques}");
+        measure_build(&format!("build, measured, {size}"), "growth", &subject);
+        measure_loss(&format!("loss at a point, {size}"), "growth", &subject);
+        measure_listing(&format!("listing, {size}"), "growth", &subject);
+    }
+}
