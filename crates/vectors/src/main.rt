@@ -17,8 +17,6 @@ use listing::ListingAnswer;
 use lookup::LossAnswer;
 use lookup::NearestAnswer;
 use refusal::Refusal;
-ghost use Prim.Native.Nat.{_≤_};
-ghost use lib.ListN.{length};
 
 // No input has more cases.
 const MOST_CASES: u64 = 1_000_000_000;
@@ -271,9 +269,15 @@ fn answer_questions(grid: Grid, entries: &[u32], questions: &[u8]) {
     }
 }
 
+// A head that lends more than there is, a lent map without axes, or a letter that is none of the four.
+fn write_no_case() {
+    io::write_all(STDOUT_FILENO, b"no case\n");
+}
+
 // A map's listing in the lent text, and the answers to the questions.
 fn use_map(grid: Grid, entries: &[u32], questions: &[u8], room: usize, text: &mut [u8]) {
     if text.len() < room {
+        write_no_case();
         return;
     }
     let listed = listing::write(grid, entries, &mut text[0..room]);
@@ -303,6 +307,7 @@ fn run_build(
     text: &mut [u8],
 ) {
     if entries.len() < lent {
+        write_no_case();
         return;
     }
     fill_entries(entries);
@@ -334,9 +339,11 @@ fn run_map(
     text: &mut [u8],
 ) {
     if entries.len() < lent {
+        write_no_case();
         return;
     }
     if body.len() < 208 {
+        write_no_case();
         return;
     }
     let mut speeds = [0u16; 32];
@@ -370,7 +377,7 @@ fn run_body(head: Head, body: &[u8], questions: &[u8], entries: &mut [u32], text
         b'p' => run_program(body, entries, text),
         b'b' => run_build(body, questions, head.entries, head.room, entries, text),
         b'm' => run_map(body, questions, head.entries, head.room, entries, text),
-        _ => {}
+        _ => write_no_case(),
     }
 }
 

@@ -219,86 +219,92 @@ fn measure_build(what: &str, target: &str, subject: &Subject) {
     );
 }
 
-fn measure_loss(what: &str, target: &str, subject: &Subject) {
-    let Subject {
-        grid,
-        entries,
-        speeds,
-        torques,
-        ..
-    } = subject;
-    let each = |ask: &mut dyn FnMut(u32, u32)| {
-        for question in &subject.questions {
+impl Subject {
+    /// Asks all questions once.
+    fn each(&self, mut ask: impl FnMut(u32, u32)) {
+        for question in &self.questions {
             ask(question.speed, question.torque);
         }
+    }
+
+    /// The same for doubles, in rpm and Nm.
+    fn each_in_doubles(&self, mut ask: impl FnMut(f64, f64)) {
+        self.each(|speed, torque| ask(f64::from(speed) / 10.0, f64::from(torque) / 100.0));
+    }
+}
+
+fn measure_loss(what: &str, target: &str, subject: &Subject) {
+    let (speeds, torques, entries) = (&subject.speeds, &subject.torques, &subject.entries);
+    let ours = || {
+        subject.each(|speed, torque| {
+            let _ = black_box(axle::loss(&subject.grid, entries, speed, torque));
+        })
     };
-    report(
-        what,
-        target,
-        vec![
-            way("library", QUESTIONS, || {
-                each(&mut |speed, torque| {
-                    let _ = black_box(axle::loss(grid, entries, speed, torque));
-                })
-            }),
-            way("Rust", QUESTIONS, || {
-                each(&mut |speed, torque| {
-                    black_box(plain::loss(speeds, torques, entries, speed, torque));
-                })
-            }),
-            way("reference", QUESTIONS, || {
-                each(&mut |speed, torque| {
-                    let _ = black_box(lookup::loss(&subject.lent, speed, torque));
-                })
-            }),
-            way("doubles", QUESTIONS, || {
-                each(&mut |speed, torque| {
-                    let (speed, torque) = (f64::from(speed) / 10.0, f64::from(torque) / 100.0);
-                    black_box(doubles::loss(
-                        speeds,
-                        torques,
-                        &subject.doubles,
-                        speed,
-                        torque,
-                    ));
-                })
-            }),
-        ],
-    );
+    let plain = || {
+        subject.each(|speed, torque| {
+            black_box(plain::loss(speeds, torques, entries, speed, torque));
+        })
+    };
+    let reference = || {
+        subject.each(|speed, torque| {
+            let _ = black_box(lookup::loss(&subject.lent, speed, torque));
+        })
+    };
+    let doubles = || {
+        subject.each_in_doubles(|speed, torque| {
+            black_box(doubles::loss(
+                speeds,
+                torques,
+                &subject.doubles,
+                speed,
+                torque,
+            ));
+        })
+    };
+    report_questions(what, target, ours, plain, reference, doubles);
 }
 
 fn measure_nearest(what: &str, subject: &Subject) {
     let (speeds, torques) = (&subject.speeds, &subject.torques);
-    let each = |ask: &mut dyn FnMut(u32, u32)| {
-        for question in &subject.questions {
-            ask(question.speed, question.torque);
-        }
+    let ours = || {
+        subject.each(|speed, torque| {
+            let _ = black_box(axle::nearest(&subject.grid, speed, torque));
+        })
     };
+    let plain = || {
+        subject.each(|speed, torque| {
+            black_box(plain::nearest(speeds, torques, speed, torque));
+        })
+    };
+    let reference = || {
+        subject.each(|speed, torque| {
+            let _ = black_box(lookup::nearest(&subject.lent, speed, torque));
+        })
+    };
+    let doubles = || {
+        subject.each_in_doubles(|speed, torque| {
+            black_box(doubles::nearest(speeds, torques, speed, torque));
+        })
+    };
+    report_questions(what, "no target", ours, plain, reference, doubles);
+}
+
+fn report_questions(
+    what: &str,
+    target: &str,
+    ours: impl Fn(),
+    plain: impl Fn(),
+    reference: impl Fn(),
+    doubles: impl Fn(),
+) {
     report(
         what,
-        "no target",
+        target,
         vec![
-            way("library", QUESTIONS, || {
-                each(&mut |speed, torque| {
-                    let _ = black_box(axle::nearest(&subject.grid, speed, torque));
-                })
-            }),
-            way("Rust", QUESTIONS, || {
-                each(&mut |speed, torque| {
-                    black_box(plain::nearest(speeds, torques, speed, torque));
-                })
-            }),
-            way("reference", QUESTIONS, || {
-                each(&mut |speed, torque| {
-                    let _ = black_box(lookup::nearest(&subject.lent, speed, torque));
-                })
-            }),
-            way("doubles", QUESTIONS, || {
-                each(&mut |speed, torque| {
-                    let (speed, torque) = (f64::from(speed) / 10.0, f64::from(torque) / 100.0);
-                    black_box(doubles::nearest(speeds, torques, speed, torque));
-                })
-            }),
+            way("library", QUESTIONS, ours),
+            way("Rust", QUESTIONS, plain),
+            way("reference", QUESTIONS, reference),
+            way("doubles", QUESTIONS, doubles),
         ],
     );
 }
@@ -347,7 +353,8 @@ fn wrong_doubles(subject: &Subject) -> usize {
         .count()
 }
 
-fn main() {
+/// What has a target, and what is measured beside it.
+fn measure_all() {
     let measured = subject(2, 32, 64, false);
     let standard = subject(1, 32, 64, false);
     let small = subject(2, 2, 2, false);
@@ -355,35 +362,24 @@ fn main() {
     for each in [&measured, &standard, &small, &large] {
         check(each);
     }
-    println!(
-        "entries of the measured map that doubles get wrong: {} of {}",
-        wrong_doubles(&measured),
-        measured.entries.len()
-    );
+    let (wrong, all) = (wrong_doubles(&measured), measured.entries.len());
+    println!("entries of the measured map that doubles get wrong: {wrong} of {all}");
     measure_roots();
-    measure_build(
-        "build, measured, 32 x 64",
-        "target: at most 0.75 of Rust, at most 1.0 of doubles",
-        &measured,
-    );
+    let target = "target: at most 0.75 of Rust, at most 1.0 of doubles";
+    measure_build("build, measured, 32 x 64", target, &measured);
     measure_build("build, standard, 32 x 64", "no target", &standard);
-    measure_loss(
-        "loss at a point, 32 x 64",
-        "target: at most 0.7 of Rust",
-        &measured,
-    );
-    measure_loss(
-        "loss at a point, 32 x 64, entries above 83,886.07 Nm",
-        "no target",
-        &large,
-    );
-    measure_loss(
-        "loss at a point, 2 x 2",
-        "target: at most 1.5 of Rust",
-        &small,
-    );
+    let target = "target: at most 0.7 of Rust";
+    measure_loss("loss at a point, 32 x 64", target, &measured);
+    let what = "loss at a point, 32 x 64, entries of 83,886.08 Nm and more";
+    measure_loss(what, "no target", &large);
+    let target = "target: at most 1.5 of Rust";
+    measure_loss("loss at a point, 2 x 2", target, &small);
     measure_nearest("nearest point, 32 x 64", &measured);
-    measure_listing("listing, 32 x 64", "target: at most 0.3 of Rust", &measured);
+    let target = "target: at most 0.3 of Rust";
+    measure_listing("listing, 32 x 64", target, &measured);
+}
+
+fn measure_growth() {
     println!("how the cost grows with the grid:");
     for (speeds, torques) in [(2, 2), (4, 8), (8, 16), (16, 32), (32, 64)] {
         let subject = subject(2, speeds, torques, false);
@@ -392,4 +388,9 @@ fn main() {
         measure_loss(&format!("loss at a point, {size}"), "growth", &subject);
         measure_listing(&format!("listing, {size}"), "growth", &subject);
     }
+}
+
+fn main() {
+    measure_all();
+    measure_growth();
 }
