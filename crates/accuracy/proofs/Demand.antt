@@ -29,7 +29,6 @@ use Rattle.lookup.specs.Cell.{Point, Within, Cell, Has, entryAt}
 use Rattle.lookup.specs.Loss.{cellOf, lossAt, lossAnswer}
 use Rattle.lookup.proofs.Axes.{Axes, map-axes, cell-has}
 use Rattle.lookup.proofs.Queries.{loss-rounds, loss-answered}
-use Rattle.accuracy.specs.Axes.{AxesRules}
 use Rattle.accuracy.specs.Claim.{EntriesAccurate, Limits}
 use Rattle.accuracy.specs.Demand.{exactOfKind, exactAt, Held, Answered, Accurate, Demand3}
 use Rattle.accuracy.proofs.Limits.{limits}
@@ -104,13 +103,6 @@ module _ (c : Component) (grid : Grid) (entries : List ℕ) (valid : validMap gr
   axes : Axes (c .speeds) (c .torques)
   axes = rw (s, t) at (map-axes grid entries valid)
 
-  axes-rules : AxesRules (c .speeds) (c .torques)
-  axes-rules = record {
-    speeds-rise = record { two = axes .speeds .two; rises = axes .speeds .rises };
-    torques-rise = record { two = axes .torques .two; rises = axes .torques .rises };
-    first-step = axes .step;
-  }
-
   loss-there : (p : Point) → Within (c .speeds) (c .torques) p → lossAnswer grid entries p ≡ accepted (lossAt (c .speeds) (c .torques) entries p)
   loss-there p w = rw (s, t) at (loss-answered grid entries p valid (rw (s, t) w))
 
@@ -118,7 +110,7 @@ module _ (c : Component) (grid : Grid) (entries : List ℕ) (valid : validMap gr
       → (p : Point) → Within (c .speeds) (c .torques) p → (k : Cell) → Has (c .speeds) (c .torques) p k
       → Limits excess (c .speeds) (c .torques) (entryAt (length (c .torques)) entries) (exactAt c) p k (lossAt (c .speeds) (c .torques) entries p)
   answer-limits excess near p w k has =
-      limits (entryAt (length (c .torques)) entries) axes-rules near has (loss-rounds (c .speeds) (c .torques) entries axes p w k has)
+      limits (entryAt (length (c .torques)) entries) axes near has (loss-rounds (c .speeds) (c .torques) entries axes p w k has)
 
   held-of : (p : Point) (k : Cell) (z : ℤ) → Limits 2 (c .speeds) (c .torques) (entryAt (length (c .torques)) entries) (exactAt c) p k z → Held c entries p k z
   held-of p k z h = record {

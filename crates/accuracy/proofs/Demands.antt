@@ -163,22 +163,25 @@ module _ (grid : Grid) (entries : List ℕ) (valid : validMap grid entries ≡ t
   abbrev most : ℕ
   most = 100 * getD (torquesOf (grid .torques)) (length (torquesOf (grid .torques)) - 1) 0
 
+  -- 20 where the speed is outside the axis; 21 where it is not, and the torque is above the last
   abbrev pub Outside : Type 0
-  Outside = (lossAnswer grid entries p ≡ refuse 20 0) ⊎ (lossAnswer grid entries p ≡ refuse 21 0)
+  Outside =
+      (((p .speed < first) ⊎ (highest < p .speed)) × (lossAnswer grid entries p ≡ refuse 20 0))
+      ⊎ ((first ≤ p .speed) × (p .speed ≤ highest) × (most < p .torque) × (lossAnswer grid entries p ≡ refuse 21 0))
 
   module _ (outside : Within (speedsOf (grid .speeds)) (torquesOf (grid .torques)) p → ⊥) where
     by-torque : first ≤ p .speed → p .speed ≤ highest → Dec (most < p .torque) → Outside
-    by-torque a b (yes l) = inr (torque-refused grid entries p valid a b l)
+    by-torque a b (yes l) = inr (a, b, l, torque-refused grid entries p valid a b l)
     by-torque a b (no l) = absurd (outside (record { from = a; upto = b; top = omega arith }))
 
     by-highest : first ≤ p .speed → Dec (highest < p .speed) → Outside
-    by-highest a (yes l) = inl (speed-refused grid entries p valid (inr l))
+    by-highest a (yes l) = inl (inr l, speed-refused grid entries p valid (inr l))
     by-highest a (no l) = by-torque a (omega arith) (decLt most (p .torque))
 
     by-first : Dec (p .speed < first) → Outside
-    by-first (yes l) = inl (speed-refused grid entries p valid (inl l))
+    by-first (yes l) = inl (inl l, speed-refused grid entries p valid (inl l))
     by-first (no l) = by-highest (omega arith) (decLt highest (p .speed))
 
-  -- one outside them is refused with 20 or 21
+  -- one outside them is refused with 20 or 21, and which of them
   pub query-refused : (Within (speedsOf (grid .speeds)) (torquesOf (grid .torques)) p → ⊥) → Outside
   query-refused outside = by-first outside (decLt (p .speed) first)

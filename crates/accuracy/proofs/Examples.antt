@@ -16,7 +16,7 @@ use Rattle.loss.specs.Standard.{lineOf, standardLoss, standardEntry}
 use Rattle.loss.specs.Exact.{Cut, cut, exactStandard}
 use Rattle.loss.proofs.Accuracy.{standard-at-or-below, standard-at-or-above, standard-entry-accurate}
 use Rattle.lookup.specs.Cell.{Point, Cell, Has, lower, upper, Corners, share, weight, sum, index, corners}
-use Rattle.accuracy.specs.Axes.{Rising, AxesRules}
+use Rattle.lookup.proofs.Axes.{Rising, Axes}
 use Rattle.accuracy.specs.Claim.{EntriesAccurate, ChosenBelow, ChosenAbove, entrySum, Limits}
 use Rattle.accuracy.proofs.Limits.{limits}
 
@@ -68,8 +68,8 @@ fromZero = 0 ∷ 1000 ∷ []
 abbrev inside : Point
 inside = record { speed = 1500; torque = 25000 }
 
-inside-rules : AxesRules speeds fromZero
-inside-rules = record { speeds-rise = rising-pair 100 200 (omega arith); torques-rise = rising-pair 0 1000 (omega arith); first-step = omega arith }
+inside-rules : Axes speeds fromZero
+inside-rules = record { speeds = rising-pair 100 200 (omega arith); torques = rising-pair 0 1000 (omega arith); step = omega arith }
 
 inside-has : Has speeds fromZero inside cell
 inside-has = record { speed-in = omega arith; torque-in = omega arith; from = omega arith; upto = omega arith; bottom = inl (omega arith); top = omega arith }
@@ -82,8 +82,8 @@ fromThousand = 1000 ∷ 2000 ∷ []
 abbrev under : Point
 under = record { speed = 1000; torque = 0 }
 
-under-rules : AxesRules speeds fromThousand
-under-rules = record { speeds-rise = rising-pair 100 200 (omega arith); torques-rise = rising-pair 1000 2000 (omega arith); first-step = omega arith }
+under-rules : Axes speeds fromThousand
+under-rules = record { speeds = rising-pair 100 200 (omega arith); torques = rising-pair 1000 2000 (omega arith); step = omega arith }
 
 under-has : Has speeds fromThousand under cell
 under-has = record { speed-in = omega arith; torque-in = omega arith; from = omega arith; upto = omega arith; bottom = inr refl; top = omega arith }

@@ -9,10 +9,11 @@ use Rattle.arith.specs.Fraction.{Fraction, whole, signed, _≼_, RoundsUp}
 use Rattle.arith.proofs.Fractions.{is-whole, is-plus-whole, at-most, at-most-of, below, below-of}
 use Rattle.loss.specs.Exact.{Cut, EntryAccurate}
 use Rattle.lookup.specs.Cell.{Point, Cell, Has, Side, lower, upper, Corners, index, corners}
-use Rattle.accuracy.specs.Axes.{AxesRules}
+use Rattle.lookup.proofs.Axes.{Axes}
 use Rattle.accuracy.specs.Claim.{EntriesAccurate, exactCorner, ChosenBelow, ChosenAbove, entrySum, FromFirstTorque, BelowFirstTorque, Limits}
 use Rattle.accuracy.proofs.Weights.{total, area, weightFor, weightAgainst, area-positive, positive-weight, negative-weight, total-for, none-against, some-against, most-against, none-against-at}
-use Rattle.accuracy.proofs.Sums.{up, down, is-signed, RoundedUp, rounded-up, total-at-most, total-times, commonDen, common-positive, plusOver, minusOver, is-over-common, sumFor, sum-is, entries-is}
+use Rattle.lookup.proofs.Rounding.{up, down, is-signed, Rounded, rounded-of}
+use Rattle.accuracy.proofs.Sums.{total-at-most, total-times, commonDen, common-positive, plusOver, minusOver, is-over-common, sumFor, sum-is, entries-is}
 
 -- ---- one corner: w counts for its weight and u against it, e is its entry, and its fraction is (a - b) / d
 
@@ -37,7 +38,7 @@ corner-high excess w u e a b d h k = omega (arith, times-below w (e * d + b) (a 
 total-excess : (excess : ℕ) (f : Corners ℕ) (d : ℕ) → excess * (total f * d) ≡ total (λ s t. excess * (f s t * d))
 total-excess excess f d = omega arith
 
-module _ (excess A d : ℕ) (z : ℤ) (p m f g : Corners ℕ) (r : RoundedUp (total f) (total g) A z) where
+module _ (excess A d : ℕ) (z : ℤ) (p m f g : Corners ℕ) (r : Rounded (total f) (total g) A z) where
   not-below-times : (F G n u : ℕ) → F + n * A ≤ G + u * A → F * d + n * (A * d) ≤ G * d + u * (A * d)
   not-below-times F G n u h = omega (arith, mul-le-mul-right d h)
 
@@ -89,9 +90,9 @@ at-most-of-times : (A u n largest P : ℕ) → P ≤ largest * A → u * A < P +
 at-most-of-times A u n largest P i j = let s : u < largest + n + 1 = lt-of-mul-lt-mul-right A (omega arith) in omega arith
 
 module _ {speeds torques : List ℕ} {p : Point} {k : Cell} {z : ℤ} (entry : ℕ → ℕ → ℕ)
-    (rules : AxesRules speeds torques) (has : Has speeds torques p k) (rounds : RoundsUp (entrySum speeds torques entry p k) z) where
-  rounded : RoundedUp (total (λ s t. weightFor speeds torques p k s t * corners entry k s t)) (total (λ s t. weightAgainst speeds torques p k s t * corners entry k s t)) (area speeds torques k) z
-  rounded = rounded-up z (entries-is rules has entry) rounds
+    (rules : Axes speeds torques) (has : Has speeds torques p k) (rounds : RoundsUp (entrySum speeds torques entry p k) z) where
+  rounded : Rounded (total (λ s t. weightFor speeds torques p k s t * corners entry k s t)) (total (λ s t. weightAgainst speeds torques p k s t * corners entry k s t)) (area speeds torques k) z
+  rounded = rounded-of z (entries-is rules has entry) rounds
 
   -- ---- from the first torque upwards the answer is between the least and the largest of the cell's four entries
 
@@ -179,6 +180,6 @@ module _ {speeds torques : List ℕ} {p : Point} {k : Cell} {z : ℤ} (entry : �
 
 -- An answer that is the cell's sum of accurate entries, rounded up once, keeps all its limits.
 pub limits : {excess : ℕ} {speeds torques : List ℕ} {p : Point} {k : Cell} {z : ℤ} (entry : ℕ → ℕ → ℕ) {exact : ℕ → ℕ → Cut} →
-    AxesRules speeds torques → EntriesAccurate excess speeds torques entry exact → Has speeds torques p k → RoundsUp (entrySum speeds torques entry p k) z →
+    Axes speeds torques → EntriesAccurate excess speeds torques entry exact → Has speeds torques p k → RoundsUp (entrySum speeds torques entry p k) z →
     Limits excess speeds torques entry exact p k z
 limits entry rules accurate has rounds = kept-limits entry rules has rounds accurate

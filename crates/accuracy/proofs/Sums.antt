@@ -1,41 +1,15 @@
 -- The weighted sum at a cell's corners as whole numbers: of entries, of fractions over one denominator, and an answer beside it. Assumes nothing.
-use Prim.Native.Nat.{ℕ, suc, _+_, _*_, _≤_, _<_}
+use Prim.Native.Nat.{ℕ, _+_, _*_, _≤_, _<_}
 use mathlib.Core.Path.{_≡_}
 use mathlib.Core.List.{List}
 use native.Mathlib.Omega.{arith}
 use native.Mathlib.Nat.{mul-pos}
-use lib.IntN.{ℤ, pos, negsuc}
-use Rattle.arith.specs.Fraction.{Fraction, whole, signed, _⊗_, RoundsUp}
-use Rattle.arith.proofs.Fractions.{Is, is-itself, is-whole, is-signed-pos, is-signed-negsuc, is-also, is-expanded, is-plus-whole, is-sum, is-product, at-most-of, below-of}
+use Rattle.arith.specs.Fraction.{Fraction, whole, _⊗_}
+use Rattle.arith.proofs.Fractions.{Is, is-itself, is-whole, is-also, is-expanded, is-sum, is-product}
 use Rattle.lookup.specs.Cell.{Point, Cell, Has, Side, lower, upper, Corners, weight, sum, corners}
-use Rattle.accuracy.specs.Axes.{AxesRules}
+use Rattle.lookup.proofs.Axes.{Axes}
 use Rattle.accuracy.specs.Claim.{entrySum}
 use Rattle.accuracy.proofs.Weights.{total, area, weightFor, weightAgainst, area-positive, weight-is}
-
--- ---- an answer: z is up z - down z
-
-abbrev pub up : ℤ → ℕ
-up (pos n) = n
-up (negsuc n) = 0
-
-abbrev pub down : ℤ → ℕ
-down (pos n) = 0
-down (negsuc n) = suc n
-
-pub is-signed : (z : ℤ) → Is (signed z) (up z) (down z) 1
-is-signed (pos n) = is-signed-pos n
-is-signed (negsuc n) = is-signed-negsuc n
-
--- z is (p - m) / d rounded up
-pub record RoundedUp (p m d : ℕ) (z : ℤ) : Type 0 where
-  pub not-below : p + down z * d ≤ m + up z * d
-  pub near : m + up z * d < p + down z * d + d
-
-pub rounded-up : {x : Fraction} {p m d : ℕ} (z : ℤ) → Is x p m d → RoundsUp x z → RoundedUp p m d z
-rounded-up z i r = record {
-  not-below = omega (arith, at-most-of i (is-signed z) (r .not-below));
-  near = omega (arith, below-of (is-signed z) (is-plus-whole 1 i) (r .near));
-}
 
 -- ---- sums over the four corners
 
@@ -84,7 +58,7 @@ is-over-common f s t = is-expanded (otherDens f s t) (commonDen f) (common-posit
 unfoldable pub sumFor : (speeds torques : List ℕ) → Point → Cell → (p m : Corners ℕ) → ℕ
 sumFor speeds torques q k p m = total (λ s t. weightFor speeds torques q k s t * p s t + weightAgainst speeds torques q k s t * m s t)
 
-module _ {speeds torques : List ℕ} {p : Point} {k : Cell} (rules : AxesRules speeds torques) (has : Has speeds torques p k) where
+module _ {speeds torques : List ℕ} {p : Point} {k : Cell} (rules : Axes speeds torques) (has : Has speeds torques p k) where
   -- of any four fractions that have one denominator
   pub sum-is : (f : Corners Fraction) (a b : Corners ℕ) (d : ℕ) → ((s t : Side) → Is (f s t) (a s t) (b s t) d) →
       Is (sum speeds torques p k f) (sumFor speeds torques p k a b) (sumFor speeds torques p k b a) (area speeds torques k * d)

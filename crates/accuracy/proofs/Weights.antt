@@ -9,31 +9,12 @@ use native.Mathlib.Nat.{mul-pos, mul-le-mul-left}
 use lib.ListN.{getD}
 use lib.IntN.{negsuc}
 use Rattle.arith.specs.Fraction.{_less_over_, whole, signed, _⊕_, _⊗_, _≼_, _≺_}
-use Rattle.arith.proofs.Fractions.{Is, is-less, is-whole, is-signed-negsuc, is-also, is-sum, is-product, at-most, below}
+use Rattle.arith.proofs.Fractions.{Is, is-whole, is-signed-negsuc, is-also, is-sum, is-product, at-most, below}
 use Rattle.lookup.specs.Cell.{Point, Cell, Has, Side, lower, upper, Corners, share, weight}
-use Rattle.accuracy.specs.Axes.{AxesRules}
+use Rattle.lookup.proofs.Axes.{Axes}
+use Rattle.lookup.proofs.Weights.{for, against, is-share}
 use Rattle.accuracy.specs.Claim.{FromFirstTorque, BelowFirstTorque, SameValue}
 use Rattle.accuracy.proofs.Axes.{speeds-apart, torques-apart, speed-difference, torque-difference, cell-from, cell-first}
-
--- ---- a share, by what counts for it and what counts against it; one of the two is 0
-
-abbrev for : (x y v : ℕ) → Side → ℕ
-for x y v lower = y - v
-for x y v upper = v - x
-
-abbrev against : (x y v : ℕ) → Side → ℕ
-against x y v lower = v - y
-against x y v upper = x - v
-
-difference-both-ways : (a b d : ℕ) → a * d + (b - a) * d ≡ (a - b) * d + b * d
-difference-both-ways a b d = let e : a + (b - a) ≡ a - b + b = omega arith in omega (arith, ap (λ (n : ℕ). n * d) e)
-
-share-is : (x y v : ℕ) → x < y → (s : Side) → Is (share x y v s) (for x y v s) (against x y v s) (y - x)
-unfolding share
-share-is x y v h lower =
-    is-also (y - v) (v - y) (y - x) (omega arith) (difference-both-ways y v (y - x)) (is-less y v (y - x) (omega arith))
-share-is x y v h upper =
-    is-also (v - x) (x - v) (y - x) (omega arith) (difference-both-ways v x (y - x)) (is-less v x (y - x) (omega arith))
 
 -- between numbers that are apart, a share's denominator is their difference, and not the 1 that stands for a 0
 pub share-denominator : (x y v : ℕ) → x < y → (s : Side) → share x y v s .den ≡ y - x
@@ -87,7 +68,7 @@ weightFor speeds torques p k s t = speedFor speeds p k s * torqueFor torques p k
 unfoldable pub weightAgainst : (speeds torques : List ℕ) → Point → Cell → Corners ℕ
 weightAgainst speeds torques p k s t = speedFor speeds p k s * torqueAgainst torques p k t
 
-module _ {speeds torques : List ℕ} {p : Point} {k : Cell} (rules : AxesRules speeds torques) (has : Has speeds torques p k) where
+module _ {speeds torques : List ℕ} {p : Point} {k : Cell} (rules : Axes speeds torques) (has : Has speeds torques p k) where
   pub area-positive : 0 < area speeds torques k
   unfolding area
   area-positive = mul-pos (speed-difference rules has) (torque-difference rules has)
@@ -127,7 +108,7 @@ module _ {speeds torques : List ℕ} {p : Point} {k : Cell} (rules : AxesRules s
   unfolding weight weightFor weightAgainst area
   weight-is s t =
       is-also _ _ (area speeds torques k) area-positive (omega arith)
-      (is-product (rw (speed-none-against s) at (share-is _ _ (p .speed) (speeds-apart rules has) s)) (share-is _ _ (p .torque) (torques-apart rules has) t))
+      (is-product (rw (speed-none-against s) at (is-share _ _ (p .speed) (speeds-apart rules has) s)) (is-share _ _ (p .torque) (torques-apart rules has) t))
 
   pub one-side : (s t : Side) → (weightAgainst speeds torques p k s t ≡ 0) ⊎ (weightFor speeds torques p k s t ≡ 0)
   unfolding weightFor weightAgainst
@@ -168,7 +149,7 @@ module _ {speeds torques : List ℕ} {p : Point} {k : Cell} (rules : AxesRules s
   torque-against-at-most : BelowFirstTorque torques p → torqueAgainst torques p k lower + torqueAgainst torques p k upper ≤ height torques k
   torque-against-at-most h =
       let e = cell-first rules has h in
-      rw e (omega (arith, subst (λ (j : ℕ). p .torque ≤ 100 * getD torques (j + 1) 0) e (has .top), rules .first-step))
+      rw e (omega (arith, subst (λ (j : ℕ). p .torque ≤ 100 * getD torques (j + 1) 0) e (has .top), rules .step))
 
   pub most-against : BelowFirstTorque torques p → total (weightAgainst speeds torques p k) ≤ area speeds torques k
   unfolding area

@@ -12,7 +12,7 @@ use mir.Facts.{toZ-ofZ}
 pub as-i64 : (n : ℕ) → n < 2 ^ 63 → toZ w64 n ≡ pos n
 as-i64 n h = toZ-pos w64 n h
 
-negative-mag : (n : ℕ) → n < 2 ^ 63 → mag (negℤ (pos n)) < 2 ^ 63
+pub negative-mag : (n : ℕ) → n < 2 ^ 63 → mag (negℤ (pos n)) < 2 ^ 63
 negative-mag zero h = h
 negative-mag (suc n) h = omega arith
 

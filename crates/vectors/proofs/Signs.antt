@@ -1,26 +1,23 @@
 -- The size of an i64: below 0 it is one more than minus the number after it. Assumes nothing.
 use Prim.Native.Nat.{ℕ, zero, suc, _+_, _^_, _<_}
-use mathlib.Core.Path.{_≡_, refl, sym, _∙_}
+use mathlib.Core.Path.{_≡_, _∙_}
 use mathlib.Core.Bool.{true, false, true≢false}
 use native.Mathlib.Omega.{arith}
 use borrow.Author.Tests.{ltb-true}
 use lib.Dec.{T}
 use lib.IntN.{ℤ, pos, negsuc, negℤ, natAbs, _+ℤ_, _-ℤ_, +ℤ-idl, +ℤ-one, negℤ-negℤ}
-use lib.Signed.{mag, ltZ, nonNeg}
+use lib.Signed.{ltZ, nonNeg}
 use mir.Syntax.{w64}
 use mir.Val.{Fits, SFits, toZ, ofZ}
 use mir.Facts.{toZ-ofZ}
+use Rattle.lookup.proofs.Signs.{negative-mag}
 
 -- a signed local
 abbrev pub held : ℤ → ℤ
 held z = toZ w64 (ofZ w64 z)
 
-negative-size : (n : ℕ) → n < 2 ^ 63 → mag (negℤ (pos n)) < 2 ^ 63
-negative-size zero h = h
-negative-size (suc n) h = omega arith
-
 negative-fits : (n : ℕ) → n < 2 ^ 63 → SFits w64 (negℤ (pos n))
-negative-fits n h = record { sfits = negative-size n h }
+negative-fits n h = record { sfits = negative-mag n h }
 
 one-up : (n : ℕ) → (negsuc n +ℤ pos 1) ≡ negℤ (pos n)
 one-up zero = +ℤ-one (negsuc zero)

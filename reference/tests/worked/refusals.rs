@@ -1,6 +1,7 @@
 //! "Refusals" of the build: numbers, places and order.
 
 use crate::support::*;
+use reference::data::SENSOR_RANGES;
 use reference::map::build;
 
 fn prefix(count: usize) -> Vec<u8> {
@@ -133,21 +134,10 @@ fn six_comes_before_the_next_field() {
 
 #[test]
 fn sensor_numbers() {
-    let ranges: [(u16, u16); 9] = [
-        (1, 50_000),
-        (0, 10_000),
-        (0, 10_000),
-        (0, 10_000),
-        (1_000, 10_000),
-        (0, 10_000),
-        (0, 1_000),
-        (0, 500),
-        (10, 100),
-    ];
     // No entries are lent, so 11 shows that the numbers of tag 6 and 7 passed.
     let rows = [(0, 0), (0, 1_000)];
     for (sensor, head) in [(0, 27), (1, 48)] {
-        for (index, (least, most)) in ranges.into_iter().enumerate() {
+        for (index, (least, most)) in SENSOR_RANGES.into_iter().enumerate() {
             let with = |number: u16| {
                 let quiet = [quiet_sensor(100); 2];
                 let mut numbers = Numbers::measured(1_000, &[0, 10], quiet, &rows);
