@@ -1,5 +1,5 @@
 -- Accepted data reaches no value that a definition has by convention only. Assumes nothing.
-use Prim.Native.Nat.{ℕ, _+_, _*_, _≤_, _<_}
+use Prim.Native.Nat.{ℕ, _*_, _≤_, _<_}
 use mathlib.Core.Path.{_≡_, ap, _∙_}
 use mathlib.Core.List.{List}
 use native.Mathlib.Omega.{arith}
@@ -14,7 +14,7 @@ use Rattle.map.specs.Build.{points, pointIndex}
 use Rattle.map.specs.Answers.{Builds}
 use Rattle.map.specs.declared.Built.{Built}
 use Rattle.map.specs.declared.Answer.the-variants.{Accepted}
-use Rattle.map.proofs.Joining.{stretch-room}
+use Rattle.grid.proofs.Points.{row-within}
 use Rattle.map.proofs.Valid.{from-data, data-rules, is-map}
 use Rattle.accuracy.specs.Conventions.{PartsDefined, KindDefined, Defined}
 
@@ -33,7 +33,7 @@ kind-defined speeds torques (measured input output rows) r =
     (parts-defined input (r .0), parts-defined output (r .1), λ row h. omega (arith, r .2))
 
 point-within : (c : Component) (i j : ℕ) → i < length (c .speeds) → j < length (c .torques) → pointIndex c i j < points c
-point-within c i j h l = omega (arith, stretch-room i (length (c .speeds)) (length (c .torques)) h)
+point-within c i j h l = omega (arith, row-within i (length (c .speeds)) (length (c .torques)) h)
 
 module _ (bytes before after : List ℕ) (r : Built) (areBytes : AreBytes bytes) (b : Builds bytes before after r) (yes : r .answer ≡ Accepted) where
   abbrev said : Component

@@ -3,3 +3,4 @@ pub mod Numbers
 pub mod Axis
 pub mod Bound
 pub mod Map
+pub mod Points

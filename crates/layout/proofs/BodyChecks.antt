@@ -12,6 +12,7 @@ use lib.Dec.{leb}
 use lib.ListN.{length, getD, drop}
 use lib.Seq.{drop-cons, drop-length}
 use Rattle.refusal.specs.Outcome.{Told, Outcome, accepted, refused, refuse, require, _>>=_, firstRefusal}
+use Rattle.refusal.proofs.Steps.{require-accepted, require-refused}
 use Rattle.refusal.proofs.First.{first-all, first-rest, first-stops, first-found}
 use Rattle.grid.specs.Axis.{_to_, within, rises, axisNumber, axisNumbers, firstStep}
 use Rattle.grid.specs.declared.Range.{Range}
@@ -211,14 +212,6 @@ pub torque-checked : Checked (numbers 2 64) torqueAxis numberBytes (λ ns place.
 torque-checked = record { decided = torque-decided; accepts = torque-accepts; refuses = torque-refused }
 
 -- ---- a sensor
-require-accepted : (b : Bool) (number place : ℕ) → require b number place ≡ accepted tt → b ≡ true
-require-accepted true number place e = refl
-require-accepted false number place e = cc
-
-require-refused : (b : Bool) (number place : ℕ) (t : Told) → require b number place ≡ refused t → (b ≡ false) × (t ≡ refusal number place)
-require-refused true number place t e = let z : _≡_ {A = ℕ} 0 1 = cc in absurd (omega arith)
-require-refused false number place t e = (refl, cc)
-
 -- the numbers of a list, as many as there are, from an index on
 listed : List ℕ → ℕ → ℕ → List ℕ
 listed ns i zero = []

@@ -1,15 +1,16 @@
 -- How long the texts are. Assumes nothing.
-use Prim.Native.Nat.{ℕ, zero, suc, _+_, _-_, _*_, _/_, _^_, _≤_, _<_}
-use mathlib.Core.Path.{_≡_, refl}
+use Prim.Native.Nat.{ℕ, zero, suc, _+_, _*_, _/_, _^_, _≤_, _<_}
+use mathlib.Core.Path.{_≡_}
 use mathlib.Core.Bool.{true}
 use mathlib.Core.List.{List}
-use native.Mathlib.Nat.{suc-mul, mul-le-mul, mul-le-mul-right}
+use native.Mathlib.Nat.{suc-mul, mul-le-mul}
 use native.Mathlib.Omega.{arith}
 use lib.ListN.{length, getD, length-append}
 use Rattle.refusal.specs.Outcome.{Told}
 use Rattle.refusal.specs.Table.{number, place, told}
 use Rattle.refusal.specs.declared.Refusal.{Refusal}
 use Rattle.refusal.specs.declared.Refusal.the-variants.{Incomplete, WrongTag, WrongLength, OutOfRange, NotRising, FirstTorqueAboveStep, AboveNominal, OffAxisTorque, NegativeLoss, EntryTooLarge, TooShort, TrailingBytes, SpeedOutside, TorqueAbove, NotAMap}
+use Rattle.grid.proofs.Points.{row-within}
 use Rattle.grid.specs.declared.Grid.{Grid}
 use Rattle.grid.specs.Map.{validMap}
 use Rattle.grid.proofs.Map.{map-facts}
@@ -39,10 +40,6 @@ unfolding joined
 joined-most text most zero h = omega arith
 joined-most text most (suc count) h =
     simp (length-append, suc-mul) (omega (arith, joined-most text most count (λ j l. h j (omega arith)), h count (omega arith)))
-
--- the entries of speed i lie within all entries
-pub row-within : (i m n : ℕ) → i < m → i * n + n ≤ m * n
-row-within i m n h = rw suc-mul at (mul-le-mul-right n h)
 
 -- `3000,50000,100000.00` and a line feed
 pub line-most : (speed torque loss : ℕ) → speed ≤ 3000 → torque ≤ 50000 → loss ≤ 10000000 → length (line speed torque loss) ≤ 21

@@ -1,13 +1,14 @@
 -- A sensor that component data gives has its numbers in their ranges. Assumes nothing.
 use Prim.Native.Nat.{ℕ, zero-le, _<_, _≤_}
 use mathlib.Core.Path.{_≡_, refl}
-use mathlib.Core.Bool.{Bool, true, false}
+use mathlib.Core.Bool.{true}
 use mathlib.Core.List.{List}
 use native.Mathlib.Omega.{arith}
 use borrow.Author.Tests.{leb-true}
 use lib.Dec.{leb}
 use lib.ListN.{getD}
-use Rattle.refusal.specs.Outcome.{Outcome, accepted, refused, _>>=_, require, placed}
+use Rattle.refusal.proofs.Steps.{require-accepted}
+use Rattle.refusal.specs.Outcome.{Outcome, accepted, refused, _>>=_, placed}
 use Rattle.refusal.proofs.First.{first-all}
 use Rattle.grid.specs.Axis.{within, _to_}
 use Rattle.grid.specs.declared.Range.{Range}
@@ -17,10 +18,6 @@ use Rattle.component.specs.Field.{offset}
 use Rattle.component.specs.declared.sensor.Sensor.{Sensor}
 use Rattle.component.specs.Sensor.{sensorRanges, sensorNumber, sensorNumbers, sensorOf, sensor}
 use Rattle.loss.specs.Measured.{InRange}
-
-required : (b : Bool) (number place : ℕ) → require b number place ≡ accepted tt → b ≡ true
-required true number place e = refl
-required false number place e = let z : _≡_ {A = ℕ} 0 1 = cc in absurd (omega arith)
 
 record Between (range : Range) (n : ℕ) : Type 0 where
   low : range .lowest ≤ n
@@ -35,7 +32,7 @@ between range n e = record {
 
 each-number : (ns : List ℕ) → sensorNumbers ns ≡ accepted tt → (i : ℕ) → i < 9 → Between (getD sensorRanges i (0 to 0)) (getD ns i 0)
 unfolding sensorNumbers sensorNumber
-each-number ns e i h = between _ _ (required _ 4 i (first-all (sensorNumber ns) 0 9 e i zero-le (omega arith)))
+each-number ns e i h = between _ _ (require-accepted _ 4 i (first-all (sensorNumber ns) 0 9 e i zero-le (omega arith)))
 
 -- nine numbers that are accepted
 pub in-range : (ns : List ℕ) → sensorNumbers ns ≡ accepted tt → InRange (sensorOf ns)

@@ -1,35 +1,23 @@
 -- A build is accepted exactly when no refusal applies: the statements of specs/Acceptance. Assumes nothing.
 use Prim.Native.Nat.{ℕ, _+_, _*_, _≤_, _<_}
-use mathlib.Core.Path.{_≡_, refl, sym, ap, _∙_}
+use mathlib.Core.Path.{_≡_, refl, sym, _∙_}
 use mathlib.Core.Bool.{Bool, true, false, not, _&&_}
-use mathlib.Core.List.{List}
 use mathlib.Core.Logic.{_⊎_, inl, inr, ⊎-elim}
 use native.Mathlib.Omega.{arith}
 use borrow.Author.Tests.{leb-true, leb-false, le-leb, not-true, not-false}
 use lib.Dec.{leb}
-use lib.ListN.{length, getD}
-use Rattle.refusal.specs.Outcome.{Told, Outcome, accepted, refused, require, _>>=_, if_then_else_, placed, firstRefusal}
-use Rattle.refusal.proofs.Steps.{never, same-value, same-refusal, then-accepted, then-refused, test-accepted, test-refused, placed-accepted, placed-refused}
+use lib.ListN.{length}
+use Rattle.refusal.specs.Outcome.{Told, accepted, refused}
+use Rattle.refusal.proofs.Steps.{never, same-value, then-accepted, then-refused, test-accepted, test-refused, require-accepted, require-refused, placed-accepted, placed-refused}
 use Rattle.refusal.proofs.First.{first-all, first-of, first-found}
 use Rattle.grid.proofs.Every.{and-fst, and-snd}
 use Rattle.component.specs.Component.{Component, Kind, standard, measured, component}
-use Rattle.layout.specs.Rules.{AreBytes, Rules}
-use Rattle.layout.specs.Layout.{layout}
 use Rattle.layout.specs.Faults.{refusal}
 use Rattle.layout.proofs.Theorems.{sound, complete, refused-means}
 use Rattle.loss.specs.Measured.{lossIsUnderZero, measuredEntry}
-use Rattle.map.specs.Rows.{Torques, Bench, rowAt, rowOf, nearAxis, rowCheck}
-use Rattle.map.specs.Build.{LossMap, points, torqueCount, check, checkOfKind, speedCheck, rowsCheck, mapOf, build}
-use Rattle.map.specs.Acceptance.{RowRules, RowFault, input-above, output-above, off-axis, negative, too-large, PointRules, PointFault, AllRowsRight, FirstWrongRow, Acceptable, mapOfNumbers, Sound, Complete, Reason, in-data, too-few, in-row, Refused}
-
--- ---- one test that is the last
-last-accepted : (b : Bool) (number place : ℕ) → require b number place ≡ accepted tt → b ≡ true
-last-accepted true number place e = refl
-last-accepted false number place e = never (record { number = number; place = place }) tt e
-
-last-refused : (b : Bool) (number place : ℕ) (t : Told) → require b number place ≡ refused t → (b ≡ false) × (t ≡ refusal number place)
-last-refused true number place t e = never t tt (sym e)
-last-refused false number place t e = (refl, sym (same-refusal (refusal number place) t e))
+use Rattle.map.specs.Rows.{Torques, Bench, rowOf, nearAxis, rowCheck}
+use Rattle.map.specs.Build.{points, torqueCount, check, checkOfKind, speedCheck, rowsCheck, mapOf, build}
+use Rattle.map.specs.Acceptance.{RowRules, RowFault, input-above, output-above, off-axis, negative, too-large, PointRules, PointFault, AllRowsRight, FirstWrongRow, mapOfNumbers, Sound, Complete, in-data, too-few, in-row, Refused}
 
 -- ---- one row
 module _ (bench : Bench) (torque : ℕ) (t : Torques) where
@@ -66,7 +54,7 @@ module _ (bench : Bench) (torque : ℕ) (t : Torques) where
       let b = test-accepted outputTest 7 4 _ tt (a .1) in
       let c = test-accepted (nearAxis torque (t .output)) 8 4 _ tt (b .1) in
       let d = test-accepted lossTest 9 0 _ tt (c .1) in
-      let f = last-accepted (leb (measuredEntry (rowOf bench t)) 10000000) 10 0 (d .1) in
+      let f = require-accepted (leb (measuredEntry (rowOf bench t)) 10000000) 10 0 (d .1) in
       let n = near-both (c .0) in
       record {
         input = leb-true _ _ (a .0);
@@ -100,7 +88,7 @@ module _ (bench : Bench) (torque : ℕ) (t : Torques) where
       ⊎-elim
       (λ d. negative i o (n .0) (n .1) (not-false _ (d .0)) (at-start 9 (d .1)))
       (λ d.
-      let f = last-refused (leb (measuredEntry (rowOf bench t)) 10000000) 10 0 u (d .1) in
+      let f = require-refused (leb (measuredEntry (rowOf bench t)) 10000000) 10 0 u (d .1) in
       too-large i o (n .0) (n .1) (not-true _ (d .0)) (leb-false _ _ (f .0)) (at-start 10 (f .1)))
       (test-refused lossTest 9 0 _ u (c .1)))
       (test-refused (nearAxis torque (t .output)) 8 4 _ u (b .1)))

@@ -1,16 +1,17 @@
 -- A loop that checks and writes one stretch of a list after the other: what it has done after i of them. Assumes nothing.
 use Prim.Native.Nat.{ℕ, zero, suc, _+_, _-_, _*_, _≤_, _<_}
 use mathlib.Core.Path.{_≡_, refl, sym, ap, _∙_}
-use mathlib.Core.List.{List, [], _∷_, _++_, append-assoc, append-nil}
+use mathlib.Core.List.{List, _++_, append-assoc, append-nil}
 use mathlib.Core.Logic.{⊎-elim}
 use native.Mathlib.Omega.{arith}
 use native.Mathlib.Numerals.{add-one}
-use native.Mathlib.Nat.{sub-zero, zero-mul, suc-mul, le-of-eq, mul-le-mul-right, eq-or-lt-of-le, le-of-suc-le-suc}
+use native.Mathlib.Nat.{sub-zero, zero-mul, suc-mul, le-of-eq, eq-or-lt-of-le, le-of-suc-le-suc}
 use borrow.Rule.Slice.PartMut.{putMid}
-use lib.ListN.{length, getD, take, drop, length-append, length-drop, drop-of-length-le}
-use lib.Seq.{take-all, take-at, drop-at, drop-drop, drop-append-le, take-append-le}
+use lib.ListN.{length, take, drop, length-append, length-drop, drop-of-length-le}
+use lib.Seq.{take-all, take-at, drop-at, drop-drop}
 use Rattle.refusal.specs.Outcome.{Told, Outcome, accepted, refused, firstRefusal}
 use Rattle.refusal.proofs.First.{first-none, first-more, first-stops}
+use Rattle.grid.proofs.Points.{row-within}
 use Rattle.grid.specs.Lists.{joined}
 
 -- ---- a tail `s[a..]` that was lent, and one that is back with ys in its place
@@ -33,10 +34,6 @@ length-joined f n (suc m) e =
     let k : length (f m) ≡ n = e m (omega arith) in
     simp (length-append, h, k, suc-mul)
 
--- the stretch after the first i of count lies within all of them
-pub stretch-room : (i count n : ℕ) → i < count → i * n + n ≤ count * n
-stretch-room i count n h = rw suc-mul at (mul-le-mul-right n h)
-
 pub record Joining (check : ℕ → Outcome (Unit {0})) (f : ℕ → List ℕ) (n count : ℕ) (before now : List ℕ) (first i : ℕ) : Type 0 where
   pub below : i ≤ count
   pub at : first ≡ i * n
@@ -51,7 +48,7 @@ module _ (check : ℕ → Outcome (Unit {0})) (f : ℕ → List ℕ) (n count : 
 
   module _ (now : List ℕ) (first i : ℕ) (p : Joining check f n count before now first i) where
     pub room : i < count → first + n ≤ count * n
-    room h = rw (p .at) (stretch-room i count n h)
+    room h = rw (p .at) (row-within i count n h)
 
     pub one-joined : i < count → check i ≡ accepted tt → (part : List ℕ)
         → part ≡ f i ++ drop (length (f i)) (take (length now - first) (drop first now))

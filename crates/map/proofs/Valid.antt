@@ -1,37 +1,35 @@
 -- What the build leaves is a map: its axes keep their rules and none of its entries is above 10,000,000. Assumes nothing.
-use Prim.Native.Nat.{ℕ, zero, suc, _+_, _-_, _*_, _/_, _%_, _≤_, _<_}
+use Prim.Native.Nat.{ℕ, zero, suc, _+_, _*_, _/_, _%_, _≤_, _<_}
 use mathlib.Core.Path.{_≡_, refl, sym, ap, _∙_}
 use mathlib.Core.Bool.{Bool, true, false, not}
-use mathlib.Core.List.{List, [], _∷_, _++_}
+use mathlib.Core.List.{List, [], _∷_}
 use mathlib.Core.Logic.{⊎-elim}
 use native.Mathlib.Omega.{arith}
 use native.Mathlib.Nat.{eq-or-lt-of-le, le-of-suc-le-suc, not-suc-le-zero, div-add-mod', mod-lt, div-lt-iff-lt-mul}
 use borrow.Author.Tests.{leb-true}
 use lib.Dec.{leb}
-use lib.ListN.{length, getD, take, drop, length-append, length-take, List·getD-append}
+use lib.ListN.{length, getD, take, length-take, List·getD-append}
 use lib.Seq.{getD-at, getD-append-add, getD-take}
-use Rattle.refusal.specs.Outcome.{Outcome, accepted, refused, require, _>>=_, placed, firstRefusal}
+use Rattle.refusal.specs.Outcome.{accepted, require, _>>=_}
 use Rattle.refusal.proofs.Steps.{same-value, then-accepted, test-accepted, placed-accepted}
 use Rattle.refusal.proofs.First.{first-all}
 use Rattle.grid.specs.Lists.{tabulate, joined}
-use Rattle.grid.specs.Axis.{_to_}
 use Rattle.grid.specs.Map.{speedsOf, torquesOf, validMap}
-use Rattle.grid.specs.declared.Grid.{Grid}
 use Rattle.grid.specs.declared.Range.{Range}
 use Rattle.grid.proofs.Axis.{Axis}
 use Rattle.grid.proofs.Map.{map-of}
 use Rattle.component.specs.Component.{Component, Kind, standard, measured, component}
-use Rattle.component.specs.Answers.{CountsWithin}
 use Rattle.layout.specs.Rules.{AreBytes, AxisRules, Rules}
 use Rattle.layout.proofs.Theorems.{sound}
 use Rattle.loss.specs.Measured.{lossIsUnderZero, measuredEntry}
 use Rattle.map.specs.Rows.{Bench, Torques, rowOf, nearAxis, rowCheck}
 use Rattle.map.specs.Build.{LossMap, points, torqueCount, entry, entryOfKind, check, checkOfKind, speedCheck, rowsCheck, speedEntries, entries, mapOf, build}
-use Rattle.map.specs.Answers.{answerOf, Builds}
+use Rattle.map.specs.Answers.{Builds}
 use Rattle.map.specs.declared.Built.{Built}
 use Rattle.map.specs.declared.Answer.the-variants.{Accepted}
 use Rattle.map.proofs.Filling.{length-tabulate}
-use Rattle.map.proofs.Joining.{length-joined, stretch-room}
+use Rattle.map.proofs.Joining.{length-joined}
+use Rattle.grid.proofs.Points.{row-within}
 use Rattle.map.proofs.StandardRows.{standard-most}
 
 -- ---- what stands at an index of the entries
@@ -56,7 +54,7 @@ joined-at f n (suc m) e s j h l =
     let z : s * n ≡ length (joined f m) = ap (λ (k : ℕ). k * n) q ∙ sym all in
     rw (z, getD-append-add (joined f m) (f m) j 0) (ap (λ (k : ℕ). getD (f k) j 0) (sym q)))
     (λ k.
-    let r : s * n + j < length (joined f m) = omega (arith, all, stretch-room s m n k) in
+    let r : s * n + j < length (joined f m) = omega (arith, all, row-within s m n k) in
     List·getD-append (joined f m) (f m) 0 (s * n + j) r ∙ joined-at f n m (λ i t. e i (omega arith)) s j k l)
     (eq-or-lt-of-le (le-of-suc-le-suc h))
 
@@ -172,7 +170,7 @@ module _ (bytes before after : List ℕ) (areBytes : AreBytes bytes) (r : Built)
   pub entry-there : (s j : ℕ) → s < r .grid .speeds .count → j < r .grid .torques .count → getD after (s * r .grid .torques .count + j) 0 ≡ entry (from-data .says) s j
   entry-there s j h l =
       let n = r .grid .torques .count in
-      let k : s * n + j < r .grid .speeds .count * n = omega (arith, stretch-room s (r .grid .speeds .count) n h) in
+      let k : s * n + j < r .grid .speeds .count * n = omega (arith, row-within s (r .grid .speeds .count) n h) in
       sym (getD-take (r .grid .speeds .count * n) after (s * n + j) 0 k)
       ∙ ap (λ (x : List ℕ). getD x (s * n + j) 0) (sym (from-data .entries-are))
       ∙ entries-by (from-data .says) n s j torque-count (omega (arith, speed-count)) l

@@ -36,6 +36,15 @@ pub test-refused : {B : Type 0} (test : Bool) (number place : ℕ) (next : Outco
 test-refused true number place next t e = inr (refl, e)
 test-refused false number place next t e = inl (refl, sym (same-refusal (record { number = number; place = place }) t e))
 
+-- and where the test is the last step
+pub require-accepted : (test : Bool) (number place : ℕ) → require test number place ≡ accepted tt → test ≡ true
+require-accepted true number place e = refl
+require-accepted false number place e = never (record { number = number; place = place }) tt e
+
+pub require-refused : (test : Bool) (number place : ℕ) (t : Told) → require test number place ≡ refused t → (test ≡ false) × (t ≡ record { number = number; place = place })
+require-refused true number place t e = never t tt (sym e)
+require-refused false number place t e = (refl, sym (same-refusal (record { number = number; place = place }) t e))
+
 -- another place: accepted stays so, and a refusal keeps its number
 pub placed-accepted : {A : Type 0} (at : ℕ → ℕ) (o : Outcome A) (a : A) → placed at o ≡ accepted a → o ≡ accepted a
 placed-accepted at (accepted b) a e = e

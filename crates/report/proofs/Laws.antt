@@ -1,15 +1,14 @@
 -- The report of a build: the refusal's line, or the listing of the map that it left. Assumes nothing.
 use Prim.Native.Nat.{ℕ, _+_, _*_, _≤_, _<_}
-use mathlib.Core.Path.{_≡_, refl, sym, ap, _∙_}
-use mathlib.Core.List.{List, _++_}
+use mathlib.Core.Path.{_≡_, refl, sym, _∙_}
+use mathlib.Core.List.{List}
 use native.Mathlib.Omega.{arith}
-use lib.ListN.{length, getD, take}
+use lib.ListN.{length, take}
 use lib.Seq.{getD-take}
-use Rattle.refusal.specs.Outcome.{Outcome, accepted, refused}
+use Rattle.refusal.specs.Outcome.{accepted, refused}
 use Rattle.refusal.specs.Table.{told}
 use Rattle.refusal.specs.declared.Refusal.{Refusal}
-use Rattle.grid.specs.Lists.{joined}
-use Rattle.grid.specs.Map.{speedsOf, torquesOf, validMap}
+use Rattle.grid.specs.Map.{speedsOf, torquesOf}
 use Rattle.grid.specs.Parts.{gridOf}
 use Rattle.grid.specs.declared.Grid.{Grid}
 use native.Mathlib.Nat.{mul-le-mul}
@@ -17,13 +16,14 @@ use Rattle.component.specs.Component.{Component, component}
 use Rattle.component.specs.Answers.{CountsWithin}
 use Rattle.layout.specs.Rules.{AreBytes}
 use Rattle.layout.proofs.Theorems.{sound}
-use Rattle.map.specs.Build.{LossMap, points, build, content}
+use Rattle.map.specs.Build.{points, build}
 use Rattle.map.specs.Answers.{Builds}
 use Rattle.map.specs.declared.Built.{Built}
 use Rattle.map.specs.declared.Answer.the-variants.{Accepted, Refused}
-use Rattle.map.proofs.Joining.{joined-same, stretch-room}
-use Rattle.map.proofs.Valid.{theMap, is-built, is-map}
-use Rattle.listing.specs.Listing.{listing, rows, row, rowAt, lineAt, line, refusalLine, fitted, listed}
+use Rattle.map.proofs.Joining.{joined-same}
+use Rattle.grid.proofs.Points.{row-within}
+use Rattle.map.proofs.Valid.{is-built, is-map}
+use Rattle.listing.specs.Listing.{listing, rows, row, rowAt, refusalLine, fitted, listed}
 use Rattle.listing.specs.Answers.{listingAnswerOf, contentOf}
 use Rattle.listing.specs.declared.ListingAnswer.{ListingAnswer}
 use Rattle.listing.proofs.Fitted.{listed-map, fitted-whole}
@@ -37,7 +37,7 @@ module _ (speeds torques entries : List ℕ) (m n : ℕ) where
   row-same i h =
       rw (getD-take m speeds i 0 h)
       (joined-same _ _ n (λ j l.
-      let k : i * n + j < m * n = omega (arith, stretch-room i m n h) in
+      let k : i * n + j < m * n = omega (arith, row-within i m n h) in
       rw (getD-take n torques j 0 l, getD-take (m * n) entries (i * n + j) 0 k)))
 
   rows-same : rows speeds m torques n entries ≡ rows (take m speeds) m (take n torques) n (take (m * n) entries)

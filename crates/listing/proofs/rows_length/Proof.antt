@@ -9,7 +9,7 @@ use native.Mathlib.Numerals.{add-one}
 use lib.ListN.{length}
 use Rattle.listing.specs.Listing.{rowAt, rows}
 use Rattle.grid.specs.Lists.{joined}
-use Rattle.listing.proofs.Lengths.{row-within}
+use Rattle.grid.proofs.Points.{row-within}
 use Rattle.listing.proofs.Places.{joined-grows}
 use borrow.Author.Needs.{needs}
 use Rattle.listing.proofs.rows_length.Statement.{statement}

@@ -10,7 +10,7 @@ use lib.ListN.{length}
 use Rattle.listing.specs.Listing.{rowAt, rows}
 use Rattle.grid.specs.Lists.{joined}
 use Rattle.listing.specs.Placed.{Written}
-use Rattle.listing.proofs.Lengths.{row-within}
+use Rattle.grid.proofs.Points.{row-within}
 use Rattle.listing.proofs.Places.{joined-grows, joined-part, written-nothing, written-next}
 use borrow.Author.Needs.{needs}
 use Rattle.listing.proofs.write_rows.Statement.{statement}

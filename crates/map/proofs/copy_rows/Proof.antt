@@ -9,7 +9,8 @@ use lib.ListN.{length, length-drop}
 use borrow.Author.Needs.{needs}
 use Rattle.refusal.specs.Outcome.{accepted}
 use Rattle.map.specs.Answers.{stretch}
-use Rattle.map.proofs.Joining.{Joining, none-joined, room, stretch-room, one-joined, all-joined, tail-lent}
+use Rattle.map.proofs.Joining.{Joining, none-joined, room, one-joined, all-joined, tail-lent}
+use Rattle.grid.proofs.Points.{row-within}
 use Rattle.map.proofs.Copying.{source-room, stretch-size, stretch-is}
 use Rattle.map.proofs.copy_rows.Statement.{statement}
 use Rattle.map.proofs.copy_rows.Tie as tie
@@ -30,7 +31,7 @@ within c =
     let inv = c .before .loop .inv in
     let h = c .loop-test .taken in
     let r = room _ _ _ _ (stretch-size _ _ _ _ (start .pre .0)) _ _ _ _ (inv .1) h in
-    (rw (inv .0) (source-room _ _ _ _ _ h (start .pre .0)), omega (arith, r, start .pre .1, inv .1 .long), rw (inv .0) (stretch-room _ _ _ h))
+    (rw (inv .0) (source-room _ _ _ _ _ h (start .pre .0)), omega (arith, r, start .pre .1, inv .1 .long), rw (inv .0) (row-within _ _ _ h))
 
 loop-holds : tie.Need-loop-holds Inv-loop μ-loop
 loop-holds c = (sym (zero-mul _), none-joined _ _ _ _ (stretch-size _ _ _ _ (c .before .before .pre .0)) _)
