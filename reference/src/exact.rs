@@ -21,6 +21,17 @@ pub struct Verdict {
     pub excess_millionths: i64,
 }
 
+/// An exact entry in ten-millionths of a hundredth of Nm, rounded down and
+/// rounded up; equal when it is a whole number of them.
+#[derive(Clone, Copy, PartialEq, Eq, Debug)]
+pub struct Bounds {
+    pub low: i64,
+    pub high: i64,
+}
+
+/// How many parts of a hundredth of Nm the bounds are whole in.
+const BOUND_PARTS: u128 = 10_000_000;
+
 /// Limits of z - S in hundredths of Nm; the upper one is never reached.
 struct Limits {
     lower: i128,
@@ -88,6 +99,15 @@ impl ExactMap {
         let mut sum = WeightedSum::over(self.denominator);
         sum.add(1, &self.entry(speed_index, torque_index));
         sum.verdict(i128::from(entry), &ENTRY_LIMITS)
+    }
+
+    /// The whole numbers around an exact entry.
+    pub fn entry_bounds(&self, speed_index: usize, torque_index: usize) -> Bounds {
+        let entry = self.entry(speed_index, torque_index);
+        Bounds {
+            low: quotient(entry.low * BOUND_PARTS, self.denominator),
+            high: quotient_rounded_up(entry.high * BOUND_PARTS, self.denominator),
+        }
     }
 
     /// Does the answer keep its limits? The query must lie within the map's.
@@ -247,11 +267,7 @@ impl WeightedSum {
             return -quotient(magnitude, self.denominator);
         }
         let magnitude = (excess.plus - excess.minus) * 1_000_000;
-        // Rounded up: one more than the quotient of the number just under it.
-        if magnitude == Wide::ZERO {
-            return 0;
-        }
-        quotient(magnitude - Wide::from(1), self.denominator).saturating_add(1)
+        quotient_rounded_up(magnitude, self.denominator)
     }
 }
 
@@ -268,6 +284,14 @@ fn quotient(numerator: Wide, denominator: Wide) -> i64 {
         }
     }
     i64::try_from(reached).expect("the interval ends at the type's largest number")
+}
+
+/// The same rounded up: one more than the quotient of the number just under it.
+fn quotient_rounded_up(numerator: Wide, denominator: Wide) -> i64 {
+    if numerator == Wide::ZERO {
+        return 0;
+    }
+    quotient(numerator - Wide::from(1), denominator).saturating_add(1)
 }
 
 /// Kind 1: the exact loss of the standard rule, all speeds alike.

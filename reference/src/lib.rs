@@ -1,7 +1,8 @@
 //! Second implementation of document 01, "Axle loss maps", written from the
 //! rule book alone. It renders the whole of it, for checks by running.
 //! Beside it: a generator of component data and questions, and what it takes to
-//! compare the answers with those of the proved libraries.
+//! compare the answers with those of the proved libraries; and cases whose exact
+//! entries are printed.
 
 pub mod component;
 pub mod exact;
@@ -14,6 +15,7 @@ pub mod wide;
 
 pub mod cases;
 pub mod data;
+pub mod exact_cases;
 pub mod faults;
 pub mod lent_maps;
 pub mod questions;

@@ -1,35 +1,36 @@
 -- Demand 3: from the bytes that the build accepts to the answers of its map. Assumes nothing.
 use Prim.Native.Nat.{ℕ, _+_, _*_, _≤_, _<_}
-use mathlib.Core.Path.{_≡_, refl, sym, ap, _∙_}
-use mathlib.Core.Bool.{Bool, true, false, not}
+use mathlib.Core.Path.{_≡_, sym, ap, _∙_}
+use mathlib.Core.Bool.{true}
 use mathlib.Core.List.{List}
+use mathlib.Core.Logic.{_⊎_, inl, inr}
 use native.Mathlib.Omega.{arith}
-use lib.Dec.{leb}
+use native.Mathlib.Decide.{decLe}
 use lib.IntN.{ℤ}
 use lib.ListN.{length, getD}
 use Rattle.refusal.specs.Outcome.{accepted}
-use Rattle.refusal.proofs.Steps.{test-accepted, placed-accepted}
+use Rattle.refusal.proofs.Steps.{placed-accepted}
 use Rattle.refusal.proofs.First.{first-all}
 use Rattle.grid.specs.Map.{speedsOf, torquesOf, validMap}
 use Rattle.grid.specs.declared.Grid.{Grid}
 use Rattle.component.specs.Component.{Component, Kind, standard, measured}
 use Rattle.component.specs.declared.sensor.Sensor.{Sensor}
 use Rattle.layout.specs.Rules.{AreBytes, Rules, KindRules, SensorRules}
-use Rattle.loss.specs.Measured.{InRange, lossIsUnderZero}
+use Rattle.loss.specs.Measured.{InRange}
 use Rattle.loss.specs.Exact.{IsNumber, EntryAccurate}
-use Rattle.loss.proofs.Accuracy.{standard-is-number, standard-entry-accurate, measured-is-number, measured-entry-accurate, wider}
+use Rattle.loss.proofs.Accuracy.{standard-is-number, standard-entry-accurate, measured-is-number, measured-entry-accurate, wider, fractions-near}
 use Rattle.loss.proofs.Rows.{one-output-in-range}
-use Rattle.map.specs.Rows.{Bench, Torques, nearAxis, rowCheck}
 use Rattle.map.specs.Build.{entry, entryOfKind, check, checkOfKind, speedCheck, rowsCheck}
 use Rattle.map.specs.Answers.{Builds}
 use Rattle.map.specs.declared.Built.{Built}
 use Rattle.map.specs.declared.Answer.the-variants.{Accepted}
+use Rattle.map.proofs.Acceptance.{row-right}
 use Rattle.map.proofs.Valid.{from-data, data-rules, entry-there, is-map}
 use Rattle.lookup.specs.Cell.{Point, Within, Cell, Has, entryAt}
 use Rattle.lookup.specs.Loss.{cellOf, lossAt, lossAnswer}
 use Rattle.lookup.proofs.Axes.{Axes, map-axes, cell-has}
 use Rattle.lookup.proofs.Queries.{loss-rounds, loss-answered}
-use Rattle.accuracy.specs.Claim.{EntriesAccurate, Limits}
+use Rattle.accuracy.specs.Claim.{EntriesAccurate, FromFirstTorque, BelowFirstTorque, OneStretch, Limits}
 use Rattle.accuracy.specs.Demand.{exactOfKind, exactAt, Held, Answered, Accurate, Demand3}
 use Rattle.accuracy.proofs.Limits.{limits}
 
@@ -48,19 +49,6 @@ sensor-in-range s r = record {
   difference = r .difference .1;
   least-span = r .span .0;
 }
-
--- a row that is accepted has no loss under zero
-not-true : (b : Bool) → not b ≡ true → b ≡ false
-not-true false e = refl
-not-true true e = sym e
-
-row-not-under-zero : (bench : Bench) (torque : ℕ) (t : Torques) → rowCheck bench torque t ≡ accepted tt → lossIsUnderZero (bench .ratio) (t .input) (t .output) ≡ false
-unfolding rowCheck
-row-not-under-zero bench torque t e =
-    let a = test-accepted (leb (t .input) (100 * bench .input .nominal)) 7 0 _ tt e .1 in
-    let b = test-accepted (leb (t .output) (100 * bench .output .nominal)) 7 4 _ tt a .1 in
-    let c = test-accepted (nearAxis torque (t .output)) 8 4 _ tt b .1 in
-    not-true _ (test-accepted (not (lossIsUnderZero (bench .ratio) (t .input) (t .output))) 9 0 _ tt c .0)
 
 -- how far an entry may be above its exact value, in hundredths of Nm
 pub excessOf : Kind → ℕ
@@ -83,7 +71,7 @@ unfolding exactOfKind checkOfKind entryOfKind excessOf
 kind-accurate c i j standard r k e = standard-entry-accurate (c .line) (c .ratio) (getD (c .torques) j 0)
 kind-accurate c i j (measured input output rows) r k e =
     measured-entry-accurate _
-    (one-output-in-range (r .ratio .1) (sensor-in-range input (k .0)) (sensor-in-range output (k .1)) (row-not-under-zero _ _ _ (placed-accepted _ _ tt e)))
+    (one-output-in-range (r .ratio .1) (sensor-in-range input (k .0)) (sensor-in-range output (k .1)) (row-right _ _ _ (placed-accepted _ _ tt e) .loss))
 
 pub exact-number : (c : Component) (i j : ℕ) → IsNumber (exactAt c i j)
 unfolding exactAt
@@ -96,6 +84,15 @@ unfolding exactAt rowsCheck speedCheck check entry
 entry-near c r e i j h l =
     kind-accurate c i j (c .kind) r (r .kind)
     (first-all _ 0 (length (c .torques)) (first-all _ 0 (length (c .speeds)) e i (omega arith) (omega arith)) j (omega arith) (omega arith))
+
+-- ---- the two stretches of torque
+
+one-stretch : (torques : List ℕ) (p : Point) → OneStretch torques p
+one-stretch torques p = record { one = go (decLe (100 * getD torques 0 0) (p .torque)); not-both = λ h l. omega arith }
+  where
+    go : Dec (100 * getD torques 0 0 ≤ p .torque) → FromFirstTorque torques p ⊎ BelowFirstTorque torques p
+    go (yes h) = inl h
+    go (no h) = inr (omega arith)
 
 -- ---- the answers over a map that has these axes, and entries that are so near
 
@@ -127,6 +124,7 @@ module _ (c : Component) (grid : Grid) (entries : List ℕ) (valid : validMap gr
     loss = lossAt (c .speeds) (c .torques) entries p;
     answered = loss-there p w;
     some-cell = (cellOf (c .speeds) (c .torques) p, cell-has (c .speeds) (c .torques) axes p w);
+    one-stretch = one-stretch (c .torques) p;
     held = λ k has. held-of p k _ (answer-limits 2 near p w k has);
   }
 
@@ -158,6 +156,7 @@ module _ (bytes before after : List ℕ) (r : Built) (areBytes : AreBytes bytes)
         speeds = sym (d .speeds);
         torques = sym (d .torques);
         one-number = λ i j h l. exact-number (d .says) i j;
+        fractions-near = λ i j n h l pos. fractions-near (exact-number (d .says) i j) (near i j h l) n pos;
         entries-near = near;
         answers = answered-at (d .says) (r .grid) after (is-map bytes before after areBytes r b yes) (sym (d .speeds)) (sym (d .torques)) near;
       }

@@ -1,36 +1,26 @@
--- Demands 1 and 2, in short: every data ends in a map or in one refusal, a refusal leaves what was lent, and a query is answered or refused by its limits. Assumes nothing.
-use Prim.Native.Nat.{ℕ, _+_, _-_, _*_, _≤_, _<_}
-use mathlib.Core.Path.{_≡_, refl, sym, ap}
-use mathlib.Core.Bool.{Bool, true, false, not}
+-- Demand 1, in short: every data ends in a map or in one refusal, and a refusal leaves what was lent. Assumes nothing.
+use Prim.Native.Nat.{ℕ, _+_, _*_, _≤_}
+use mathlib.Core.Path.{_≡_, refl, ap}
+use mathlib.Core.Bool.{Bool}
 use mathlib.Core.List.{List}
-use mathlib.Core.Logic.{_⊎_, inl, inr, ⊎-elim}
+use mathlib.Core.Logic.{⊎-elim}
 use native.Mathlib.Omega.{arith}
-use native.Mathlib.Decide.{decLt}
-use lib.Dec.{leb}
-use lib.IntN.{ℤ}
-use lib.ListN.{length, getD}
-use Rattle.refusal.specs.Outcome.{Told, Outcome, accepted, refused, refuse, require}
+use lib.ListN.{length}
+use Rattle.refusal.specs.Outcome.{Told, refusal, Outcome, accepted, refused}
 use Rattle.refusal.specs.Table.{told}
 use Rattle.refusal.specs.declared.Refusal.{Refusal}
-use Rattle.refusal.proofs.Steps.{never, same-refusal, then-refused, test-refused, placed-refused}
-use Rattle.refusal.proofs.First.{first-found}
-use Rattle.grid.specs.Map.{speedsOf, torquesOf, validMap}
-use Rattle.grid.specs.declared.Grid.{Grid}
 use Rattle.grid.specs.declared.Range.{Range}
-use Rattle.component.specs.Component.{Component, Kind, standard, measured, component}
+use Rattle.component.specs.Component.{Component, Kind, standard, measured}
 use Rattle.layout.specs.Rules.{AreBytes}
-use Rattle.layout.specs.Faults.{refusal, HeadFault, head-incomplete, other-tag, none-left, other-length, body-incomplete, FieldFault, in-head, in-body, NumberFault, AxisFault, TorqueFault, numbers-wrong, step-wrong, SensorFault}
+use Rattle.layout.specs.Faults.{HeadFault, head-incomplete, other-tag, none-left, other-length, body-incomplete, FieldFault, in-head, in-body, NumberFault, AxisFault, TorqueFault, numbers-wrong, step-wrong, SensorFault}
 use Rattle.layout.specs.Acceptance.{Fault, in-kind, in-line, in-ratio, in-speeds, in-torques, in-input, in-output, in-rows, after-torques, after-rows}
-use Rattle.layout.proofs.Theorems.{refused-means}
-use Rattle.loss.specs.Measured.{lossIsUnderZero, measuredEntry}
-use Rattle.map.specs.Rows.{Bench, Torques, rowOf, nearAxis, rowCheck}
-use Rattle.map.specs.Build.{LossMap, points, torqueCount, check, checkOfKind, speedCheck, rowsCheck, mapOf, build}
+use Rattle.map.specs.Rows.{Bench, Torques}
+use Rattle.map.specs.Build.{LossMap, points, build}
+use Rattle.map.specs.Acceptance.{RowFault, input-above, output-above, off-axis, negative, too-large, PointFault, Reason, in-data, too-few, in-row}
 use Rattle.map.specs.Answers.{Builds}
 use Rattle.map.specs.declared.Built.{Built}
 use Rattle.map.specs.declared.Answer.the-variants.{Refused}
-use Rattle.lookup.specs.Cell.{Point, Within}
-use Rattle.lookup.specs.Loss.{lossAt, lossAnswer}
-use Rattle.lookup.proofs.Queries.{speed-refused, torque-refused, loss-answered}
+use Rattle.map.proofs.Acceptance.{build-refused}
 
 -- ---- the refusals of a build
 
@@ -82,49 +72,24 @@ module _ (bytes : List ℕ) (t : Told) where
   of-fault (after-torques _ _ _ _ e) = told-so t 12 _ e (omega arith) (omega arith)
   of-fault (after-rows _ _ _ _ _ _ _ _ _ _ e) = told-so t 12 _ e (omega arith) (omega arith)
 
-of-row : (bench : Bench) (torque : ℕ) (row : Torques) (t : Told) → rowCheck bench torque row ≡ refused t → OfBuild t
-unfolding rowCheck
-of-row bench torque row t e =
-    ⊎-elim (λ a. told-so t 7 0 (a .1) (omega arith) (omega arith))
-    (λ a. ⊎-elim (λ b. told-so t 7 4 (b .1) (omega arith) (omega arith))
-    (λ b. ⊎-elim (λ c. told-so t 8 4 (c .1) (omega arith) (omega arith))
-    (λ c. ⊎-elim (λ d. told-so t 9 0 (d .1) (omega arith) (omega arith))
-    (λ d. last (leb (measuredEntry (rowOf bench row)) 10000000) (d .1))
-    (test-refused (not (lossIsUnderZero (bench .ratio) (row .input) (row .output))) 9 0 _ t (c .1)))
-    (test-refused (nearAxis torque (row .output)) 8 4 _ t (b .1)))
-    (test-refused (leb (row .output) (100 * bench .output .nominal)) 7 4 _ t (a .1)))
-    (test-refused (leb (row .input) (100 * bench .input .nominal)) 7 0 _ t e)
-  where
-    last : (b : Bool) → require b 10 0 ≡ refused t → OfBuild t
-    last true h = never t tt (sym h)
-    last false h = told-so t 10 0 (sym (same-refusal (refusal 10 0) t h)) (omega arith) (omega arith)
+of-row : (bench : Bench) (torque : ℕ) (row : Torques) (place : ℕ) (t : Told) → RowFault bench torque row place t → OfBuild t
+of-row bench torque row place t (input-above _ e) = told-so t 7 place e (omega arith) (omega arith)
+of-row bench torque row place t (output-above _ _ e) = told-so t 7 (place + 4) e (omega arith) (omega arith)
+of-row bench torque row place t (off-axis _ _ _ e) = told-so t 8 (place + 4) e (omega arith) (omega arith)
+of-row bench torque row place t (negative _ _ _ _ _ e) = told-so t 9 place e (omega arith) (omega arith)
+of-row bench torque row place t (too-large _ _ _ _ _ _ e) = told-so t 10 place e (omega arith) (omega arith)
 
-of-kind : (c : Component) (i j : ℕ) (kind : Kind) (t : Told) → checkOfKind c i j kind ≡ refused t → OfBuild t
-unfolding checkOfKind
-of-kind c i j standard t e = never t tt (sym e)
-of-kind c i j (measured input output rows) t e =
-    let u = placed-refused _ _ t e in
-    let h = of-row _ _ _ (u .0) (u .1) in
-    told-so t (u .0 .number) _ (u .2) (h .0) (h .1)
+of-point : (c : Component) (i j : ℕ) (kind : Kind) (t : Told) → PointFault c i j kind t → OfBuild t
+of-point c i j standard t f = absurd f
+of-point c i j (measured input output rows) t f = of-row _ _ _ _ t f
 
-of-rows : (c : Component) (t : Told) → rowsCheck c ≡ refused t → OfBuild t
-unfolding rowsCheck speedCheck check
-of-rows c t e =
-    let s = first-found _ 0 (length (c .speeds)) t e in
-    let j = first-found _ 0 (torqueCount c) t (s .here) in
-    of-kind c (s .at) (j .at) (c .kind) t (j .here)
-
-of-map : (c : Component) (lent : ℕ) (t : Told) → mapOf c lent ≡ refused t → OfBuild t
-unfolding mapOf
-of-map c lent t e =
-    ⊎-elim (λ a. told-so t 11 (points c) (a .1) (omega arith) (omega arith))
-    (λ a. ⊎-elim (of-rows c t) (λ b. never t _ (sym (b .2))) (then-refused (rowsCheck c) _ t (a .1)))
-    (test-refused (leb (points c) lent) 11 (points c) _ t e)
+of-reason : (bytes : List ℕ) (lent : ℕ) (t : Told) → Reason bytes lent t → OfBuild t
+of-reason bytes lent t (in-data f) = of-fault bytes t f
+of-reason bytes lent t (too-few c _ _ _ e) = told-so t 11 (points c) e (omega arith) (omega arith)
+of-reason bytes lent t (in-row c _ _ _ w) = of-point c (w .speed) (w .torque) (c .kind) t (w .wrong)
 
 pub of-build : (bytes : List ℕ) (lent : ℕ) → AreBytes bytes → (t : Told) → build bytes lent ≡ refused t → OfBuild t
-unfolding build
-of-build bytes lent areBytes t e =
-    ⊎-elim (λ a. of-fault bytes t (refused-means bytes t areBytes a)) (λ a. of-map (a .0) lent t (a .2)) (then-refused (component bytes) _ t e)
+of-build bytes lent areBytes t e = of-reason bytes lent t (build-refused bytes lent t areBytes e)
 
 -- ---- demand 1
 
@@ -141,47 +106,8 @@ ends-by o (refused t) e f = in-a-refusal t e (f t e)
 pub build-ends : (bytes : List ℕ) (lent : ℕ) → AreBytes bytes → Ends (build bytes lent)
 build-ends bytes lent areBytes = ends-by (build bytes lent) (build bytes lent) refl (of-build bytes lent areBytes)
 
--- ---- demand 2
-
 -- "A refused build writes no entry."
 pub refused-leaves : (bytes before after : List ℕ) (r : Built) (x : Refusal) → Builds bytes before after r → r .answer ≡ Refused x → after ≡ before
 refused-leaves bytes before after r x b e =
     let o : refused (told x) ≡ build bytes (length before) = rw e at (b .outcome) in
     rw (← o) at (b .written)
-
-module _ (grid : Grid) (entries : List ℕ) (valid : validMap grid entries ≡ true) (p : Point) where
-  -- a query within the limits of a map is answered
-  pub query-answered : Within (speedsOf (grid .speeds)) (torquesOf (grid .torques)) p → (z : ℤ) × (lossAnswer grid entries p ≡ accepted z)
-  query-answered w = (lossAt (speedsOf (grid .speeds)) (torquesOf (grid .torques)) entries p, loss-answered grid entries p valid w)
-
-  abbrev first : ℕ
-  first = 10 * getD (speedsOf (grid .speeds)) 0 0
-
-  abbrev highest : ℕ
-  highest = 10 * getD (speedsOf (grid .speeds)) (length (speedsOf (grid .speeds)) - 1) 0
-
-  abbrev most : ℕ
-  most = 100 * getD (torquesOf (grid .torques)) (length (torquesOf (grid .torques)) - 1) 0
-
-  -- 20 where the speed is outside the axis; 21 where it is not, and the torque is above the last
-  abbrev pub Outside : Type 0
-  Outside =
-      (((p .speed < first) ⊎ (highest < p .speed)) × (lossAnswer grid entries p ≡ refuse 20 0))
-      ⊎ ((first ≤ p .speed) × (p .speed ≤ highest) × (most < p .torque) × (lossAnswer grid entries p ≡ refuse 21 0))
-
-  module _ (outside : Within (speedsOf (grid .speeds)) (torquesOf (grid .torques)) p → ⊥) where
-    by-torque : first ≤ p .speed → p .speed ≤ highest → Dec (most < p .torque) → Outside
-    by-torque a b (yes l) = inr (a, b, l, torque-refused grid entries p valid a b l)
-    by-torque a b (no l) = absurd (outside (record { from = a; upto = b; top = omega arith }))
-
-    by-highest : first ≤ p .speed → Dec (highest < p .speed) → Outside
-    by-highest a (yes l) = inl (inr l, speed-refused grid entries p valid (inr l))
-    by-highest a (no l) = by-torque a (omega arith) (decLt most (p .torque))
-
-    by-first : Dec (p .speed < first) → Outside
-    by-first (yes l) = inl (inl l, speed-refused grid entries p valid (inl l))
-    by-first (no l) = by-highest (omega arith) (decLt highest (p .speed))
-
-  -- one outside them is refused with 20 or 21, and which of them
-  pub query-refused : (Within (speedsOf (grid .speeds)) (torquesOf (grid .torques)) p → ⊥) → Outside
-  query-refused outside = by-first outside (decLt (p .speed) first)

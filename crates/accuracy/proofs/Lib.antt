@@ -3,10 +3,7 @@ pub mod Axes
 pub mod Weights
 pub mod Sums
 pub mod Limits
-pub mod Examples
 pub mod Demand
-pub mod Worked
-pub mod Reckoned
 pub mod Asking
 pub mod Demands
 pub mod Conventions

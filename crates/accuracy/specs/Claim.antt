@@ -2,6 +2,7 @@
 -- Entries and exact entries are given at the indices of the grid: a speed's, then a torque's.
 use Prim.Native.Nat.{ℕ, _+_, _*_, _≤_, _<_}
 use mathlib.Core.List.{List}
+use mathlib.Core.Logic.{_⊎_}
 use lib.ListN.{length, getD}
 use lib.IntN.{ℤ}
 use Rattle.arith.specs.Fraction.{Fraction, whole, signed, _⊕_, _≼_, _≺_, RoundsUp}
@@ -43,6 +44,11 @@ FromFirstTorque torques p = 100 * getD torques 0 0 ≤ p .torque
 
 abbrev pub BelowFirstTorque : (torques : List ℕ) → Point → Type 0
 BelowFirstTorque torques p = p .torque < 100 * getD torques 0 0
+
+-- a torque is in one of them and not in both
+pub record OneStretch (torques : List ℕ) (p : Point) : Type 0 where
+  pub one : FromFirstTorque torques p ⊎ BelowFirstTorque torques p
+  pub not-both : FromFirstTorque torques p → BelowFirstTorque torques p → ⊥
 
 -- The answer z "is the one that 'Loss at a point' names". "For every choice of fractions .. that answer keeps its lower limit against their weighted sum; the upper limit likewise with the sides turned."
 -- The limits are 0 and excess + 1 from the first torque upwards, and excess and 2 * excess + 1 below it. With an excess of 2 that is 0 and 3, 2 and 5.

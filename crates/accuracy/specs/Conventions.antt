@@ -1,11 +1,15 @@
--- A fraction over 0, a difference under 0 and a number past the end of a list have a value by convention only. Accepted data reaches none of them.
+-- A fraction over 0, a difference under 0, a fraction under zero rounded up and a number past the end of a list have a value by convention only. Accepted data reaches none of them.
 use Prim.Native.Nat.{ℕ, _+_, _*_, _≤_, _<_}
+use mathlib.Core.Path.{_≡_}
+use mathlib.Core.Bool.{false}
 use mathlib.Core.List.{List}
 use lib.ListN.{length, getD}
 use Rattle.component.specs.Component.{Component, Kind, standard, measured}
 use Rattle.component.specs.declared.sensor.Sensor.{Sensor}
-use Rattle.loss.specs.Standard.{lineOf}
-use Rattle.loss.specs.Measured.{temperatureOnSensitivity, temperatureOnZero, calibration, parasiticLoads}
+use Rattle.loss.specs.Rounding.{underZero}
+use Rattle.loss.specs.Standard.{lineOf, standardLoss}
+use Rattle.loss.specs.Measured.{lossIsUnderZero, temperatureOnSensitivity, temperatureOnZero, calibration, parasiticLoads}
+use Rattle.map.specs.Rows.{rowAt}
 use Rattle.map.specs.Build.{points, pointIndex}
 use Rattle.lookup.specs.Cell.{Point, Cell, Has}
 
@@ -22,6 +26,13 @@ KindDefined points standard = Unit {0}
 KindDefined points (measured input output rows) =
     PartsDefined input × PartsDefined output × ((row : ℕ) → row < points → 8 * row + 8 ≤ length (rows .bytes))
 
+-- what an entry is rounded up from is not under zero: `roundUp` has 0 for that
+abbrev pub NotUnderZero : Component → (speed torque : ℕ) → Kind → Type 0
+NotUnderZero c speed torque standard = underZero (standardLoss (lineOf (c .line)) (c .ratio) (getD (c .torques) torque 0)) ≡ false
+NotUnderZero c speed torque (measured input output rows) =
+    let row = rowAt (rows .bytes) (pointIndex c speed torque) in
+    lossIsUnderZero (c .ratio) (row .input) (row .output) ≡ false
+
 -- the shares of a cell's sides are over a width above 0
 pub record WidthsDefined (speeds torques : List ℕ) (k : Cell) : Type 0 where
   pub speed : getD speeds (k .speed) 0 < getD speeds (k .speed + 1) 0
@@ -34,6 +45,7 @@ pub record Defined (c : Component) (entries : List ℕ) : Type 0 where
   pub efficiency-above-0 : 0 < lineOf (c .line) .efficiency
   pub efficiency-to-100 : lineOf (c .line) .efficiency ≤ 100
   pub kind : KindDefined (points c) (c .kind)
+  pub not-under-zero : (i j : ℕ) → i < length (c .speeds) → j < length (c .torques) → NotUnderZero c i j (c .kind)
   -- every point of the grid is one of the points, and has its entry
   pub point-there : (i j : ℕ) → i < length (c .speeds) → j < length (c .torques) → pointIndex c i j < points c
   pub entry-there : (i j : ℕ) → i < length (c .speeds) → j < length (c .torques) → pointIndex c i j < length entries

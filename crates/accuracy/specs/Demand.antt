@@ -10,7 +10,7 @@ use Rattle.grid.specs.Map.{speedsOf, torquesOf}
 use Rattle.grid.specs.declared.Grid.{Grid}
 use Rattle.component.specs.Component.{Component, Kind, standard, measured, component}
 use Rattle.layout.specs.Rules.{AreBytes}
-use Rattle.loss.specs.Exact.{Cut, IsNumber, EntryAccurate, cut, exactStandard, exactMeasured}
+use Rattle.loss.specs.Exact.{Cut, IsNumber, Near, EntryAccurate, cut, exactStandard, exactMeasured}
 use Rattle.map.specs.Rows.{rowAt, rowOf}
 use Rattle.map.specs.Build.{pointIndex}
 use Rattle.map.specs.Answers.{Builds}
@@ -18,7 +18,7 @@ use Rattle.map.specs.declared.Built.{Built}
 use Rattle.map.specs.declared.Answer.the-variants.{Accepted}
 use Rattle.lookup.specs.Cell.{Point, Within, Cell, Has, Corners, sum, entryAt}
 use Rattle.lookup.specs.Loss.{lossAnswer}
-use Rattle.accuracy.specs.Claim.{ChosenBelow, ChosenAbove, entrySum, FromFirstTorque, BelowFirstTorque}
+use Rattle.accuracy.specs.Claim.{ChosenBelow, ChosenAbove, entrySum, FromFirstTorque, BelowFirstTorque, OneStretch}
 
 -- ---- the exact entries of component data, by the indices of a point's speed and torque
 
@@ -51,6 +51,8 @@ pub record Answered (c : Component) (grid : Grid) (entries : List ℕ) (p : Poin
   pub loss : ℤ
   pub answered : lossAnswer grid entries p ≡ accepted loss
   pub some-cell : (k : Cell) × Has (c .speeds) (c .torques) p k
+  -- one pair of limits applies, and not both
+  pub one-stretch : OneStretch (c .torques) p
   pub held : (k : Cell) → Has (c .speeds) (c .torques) p k → Held c entries p k loss
 
 -- ---- the claim
@@ -64,6 +66,8 @@ pub record Accurate (bytes : List ℕ) (grid : Grid) (entries : List ℕ) : Type
   pub torques : torquesOf (grid .torques) ≡ says .torques
   -- each exact entry is one number
   pub one-number : (i j : ℕ) → i < length (says .speeds) → j < length (says .torques) → IsNumber (exactAt says i j)
+  -- and has fractions on both sides as near to each other as may be asked, so that what is said of all fractions is said of the number itself
+  pub fractions-near : (i j n : ℕ) → i < length (says .speeds) → j < length (says .torques) → 0 < n → Near (exactAt says i j) n
   -- "An entry itself is never below its exact value and less than 0.02 Nm above. This holds at every point of the grid."
   pub entries-near : (i j : ℕ) → i < length (says .speeds) → j < length (says .torques)
       → EntryAccurate 2 (exactAt says i j) (entryAt (length (says .torques)) entries i j)

@@ -27,8 +27,7 @@ Hold (e ∷ es) = (component (e .bytes) ≡ e .says) × Hold es
 
 examples : List Example
 examples =
-    record { bytes = upToTorques 0x0B 0xB8 ++ (0 ∷ 0 ∷ 3 ∷ 0xE8 ∷ []); says = standardWith 3000 (0 ∷ 1000 ∷ []) }
-    ∷ record { bytes = upToTorques 0x0B 0xB8 ++ (0 ∷ 10 ∷ 0 ∷ 20 ∷ []); says = standardWith 3000 (10 ∷ 20 ∷ []) }
+    record { bytes = upToTorques 0x0B 0xB8 ++ (0 ∷ 10 ∷ 0 ∷ 20 ∷ []); says = standardWith 3000 (10 ∷ 20 ∷ []) }
     ∷ record { bytes = upToTorques 0x0B 0xB8 ++ (0 ∷ 11 ∷ 0 ∷ 21 ∷ []); says = refuse 6 23 }
     ∷ record { bytes = upToTorques 0x0B 0xB8 ++ (0 ∷ 11 ∷ 0 ∷ 11 ∷ []); says = refuse 5 25 }
     ∷ record { bytes = upToTorques 0x0B 0xB8 ++ (0 ∷ 0 ∷ 3 ∷ 0xE8 ∷ 7 ∷ []); says = refuse 12 27 }
@@ -42,4 +41,4 @@ examples =
 
 hold : Hold examples
 unfolding Hold examples upToTorques standardWith component axleFields axesFields kindFields measuredFields head field number axis pairs within rises axisNumber axisNumbers firstStep firstRefusal
-hold = (refl, (refl, (refl, (refl, (refl, (refl, (refl, (refl, (refl, (refl, (refl, tt)))))))))))
+hold = (refl, (refl, (refl, (refl, (refl, (refl, (refl, (refl, (refl, (refl, tt))))))))))

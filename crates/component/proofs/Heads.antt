@@ -36,7 +36,7 @@ module _ (s : List ℕ) (at tag : ℕ) (allowed : ℕ → Bool) where
       unfolding head
       past-end a l = rw (lt-ltb at (length s) h, le-leb (at + 3) (length s) (omega arith), eq-eqb (getD s at 0) tag t, ← e, a, lt-leb (at + 3 + len) (length s) (omega arith))
 
-      pub whole : allowed len ≡ true → len ≤ length s - (at + 3) → accepted (record { tag = tag; start = at + 3; end = at + 3 + len }) ≡ head s at tag allowed
+      pub whole : allowed len ≡ true → len ≤ length s - (at + 3) → accepted (record { tag = getD s at 0; start = at + 3; end = at + 3 + len }) ≡ head s at tag allowed
       unfolding head
       whole a l = rw (lt-ltb at (length s) h, le-leb (at + 3) (length s) (omega arith), eq-eqb (getD s at 0) tag t, ← e, a, le-leb (at + 3 + len) (length s) (omega arith))
 
@@ -59,11 +59,11 @@ head-whole s at tag allowed f e =
     let c = test-accepted (eqb (getD s at 0) tag) 2 at _ f (b .1) in
     let d = test-accepted (allowed len) 3 at _ f (c .1) in
     let g = test-accepted (leb (at + 3 + len) (length s)) 1 at _ f (d .1) in
-    let h = same-value (record { tag = tag; start = at + 3; end = at + 3 + len }) f (g .1) in
+    let h = same-value (record { tag = getD s at 0; start = at + 3; end = at + 3 + len }) f (g .1) in
     record {
       complete = leb-true _ _ (b .0);
       tagged = eqb-true _ _ (c .0);
-      tag-is = ap (λ (f : Head). f .tag) (sym h);
+      tag-is = ap (λ (f : Head). f .tag) (sym h) ∙ eqb-true _ _ (c .0);
       start-is = ap (λ (f : Head). f .start) (sym h);
       end-is = ap (λ (f : Head). f .end) (sym h);
       fits = d .0;

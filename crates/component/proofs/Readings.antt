@@ -1,19 +1,28 @@
 -- The cases of component data: which run of fields decides. Assumes nothing.
-use Prim.Native.Nat.{ℕ, _*_, _≤_, _<_}
+use Prim.Native.Nat.{ℕ, zero, suc, _*_, _≤_, _<_}
+use mathlib.Core.Bool.{Bool, true}
 use mathlib.Core.Path.{_≡_, refl, sym, ap, _∙_}
 use mathlib.Core.List.{List}
 use native.Mathlib.Omega.{arith}
 use native.Mathlib.Nat.{mul-le-mul}
-use borrow.Author.Tests.{le-leb, lt-leb}
+use borrow.Author.Tests.{le-leb, lt-leb, leb-true}
 use lib.Dec.{leb}
 use lib.ListN.{length}
 use Rattle.refusal.specs.Outcome.{Told, Outcome, accepted, refused, refuse, require, _>>=_, if_then_else_}
 use Rattle.refusal.specs.Table.{told}
 use Rattle.refusal.specs.declared.Refusal.{Refusal}
-use Rattle.component.specs.Component.{Run, Axle, Axes, Kind, Component, axleFields, axesFields, kindFields, component}
+use Rattle.refusal.proofs.Steps.{never, same-value, then-accepted, test-accepted}
+use Rattle.grid.specs.Axis.{_to_, within}
+use Rattle.grid.specs.declared.Range.{Range}
+use Rattle.grid.proofs.Every.{and-fst, and-snd}
+use Rattle.component.specs.Bytes.{numberOf, between}
+use Rattle.component.specs.Field.{Field, head, field, exactly, number}
+use Rattle.component.specs.Component.{Run, Axle, Axes, Kind, kindNumber, Rows, Component, axleFields, axesFields, kindFields, component}
 use Rattle.grid.specs.Map.{speedsOf, torquesOf}
 use Rattle.grid.specs.declared.Grid.{Grid}
-use Rattle.component.specs.Answers.{CountsWithin, NoNumbers, Reads}
+use Rattle.component.specs.Answers.{CountsWithin, NoNumbers, kindOf, rowsOf, Reads}
+use Rattle.component.specs.declared.sensor.Sensor.{Sensor}
+use Rattle.component.specs.declared.Measured.{Measured}
 use Rattle.component.specs.declared.Reading.{Reading}
 use Rattle.component.specs.declared.Answer.the-variants.{Refused}
 
@@ -23,6 +32,48 @@ points grid w = rw (w .speeds-length, w .torques-length)
 
 pub points-most : (grid : Grid) → CountsWithin grid → grid .speeds .count * grid .torques .count ≤ 2048
 points-most grid w = mul-le-mul (w .speeds) (w .torques)
+
+-- ---- the kind's number
+
+-- a number that was read is in its range
+number-within : (bytes : List ℕ) (at tag : ℕ) (allowed : ℕ → Bool) (range : Range) (f : Field ℕ) → field bytes at tag allowed (number range) ≡ accepted f → within range (f .value) ≡ true
+unfolding field number
+number-within bytes at tag allowed range f e =
+    let h = then-accepted (head bytes at tag allowed) _ f e in
+    let place = h .0 .start in
+    let body = between bytes place (h .0 .end) in
+    let v = then-accepted (require (within range (numberOf body)) 4 place >>= λ _. accepted (numberOf body)) _ f (h .2) in
+    let t = test-accepted (within range (numberOf body)) 4 place _ (v .0) (v .1) in
+    let same : numberOf body ≡ v .0 = same-value (numberOf body) (v .0) (t .1) in
+    let value : v .0 ≡ f .value = ap (λ (g : Field ℕ). g .value) (same-value _ f (v .2)) in
+    rw (← value, ← same) (t .0)
+
+axle-kind : (bytes : List ℕ) (axle : Run Axle) → axleFields bytes 0 ≡ accepted axle → within (1 to 2) (axle .value .kind) ≡ true
+unfolding axleFields
+axle-kind bytes axle e =
+    let k = then-accepted (field bytes 0 1 (exactly 1) (number (1 to 2))) _ axle e in
+    let l = then-accepted (field bytes (k .0 .next) 2 (exactly 1) (number (1 to 5))) _ axle (k .2) in
+    let r = then-accepted (field bytes (l .0 .next) 3 (exactly 2) (number (1000 to 20000))) _ axle (l .2) in
+    let kind : k .0 .value ≡ axle .value .kind = ap (λ (a : Run Axle). a .value .kind) (same-value _ axle (r .2)) in
+    rw (← kind) (number-within bytes 0 1 (exactly 1) (1 to 2) (k .0) (k .1))
+
+kind-numbered : (kind : ℕ) (input output : Sensor) (rows : Rows) → 1 ≤ kind → kind ≤ 2 → kind ≡ kindNumber (kindOf kind input output rows)
+kind-numbered zero input output rows h k = absurd (omega arith)
+kind-numbered (suc zero) input output rows h k = refl
+kind-numbered (suc (suc zero)) input output rows h k = refl
+kind-numbered (suc (suc (suc n))) input output rows h k = absurd (omega arith)
+
+-- the kind that was read has its number
+pub kind-said : (bytes : List ℕ) (axle : Run Axle) → accepted axle ≡ axleFields bytes 0 → (m : Measured) (line ratio : ℕ) (speeds torques : List ℕ)
+    → accepted (record { kind = kindOf (axle .value .kind) (m .input) (m .output) (rowsOf bytes (m .rows)); line = line; ratio = ratio; speeds = speeds; torques = torques }) ≡ component bytes
+    → (says : Component) → component bytes ≡ accepted says → axle .value .kind ≡ kindNumber (says .kind)
+unfolding within
+kind-said bytes axle a m line ratio speeds torques e says f =
+    let w = axle-kind bytes axle (sym a) in
+    let low = leb-true 1 (axle .value .kind) (and-fst _ _ w) in
+    let high = leb-true (axle .value .kind) 2 (and-snd (leb 1 (axle .value .kind)) _ w) in
+    let same = ap (λ (c : Component). kindNumber (c .kind)) (same-value _ says (e ∙ f)) in
+    kind-numbered (axle .value .kind) (m .input) (m .output) (rowsOf bytes (m .rows)) low high ∙ same
 
 -- axes with no numbers
 pub no-counts : (grid : Grid) → grid .speeds .count ≡ 0 → grid .torques .count ≡ 0 → CountsWithin grid
@@ -70,6 +121,7 @@ module _ (bytes : List ℕ) where
       let n = h .1 in
       record {
         outcome = rw (h .0) e;
+        kind = λ says f. never (told x) says (e ∙ f);
         counts = no-counts _ (n .speeds) (n .torques);
         rows = rw (n .rows) (omega arith, omega arith);
         unstated = rw (h .0) n;

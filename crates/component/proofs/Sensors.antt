@@ -6,6 +6,7 @@ use mathlib.Core.List.{List, _++_, append-nil}
 use native.Mathlib.Omega.{arith}
 use lib.ListN.{length, getD, drop, drop-of-length-le}
 use Rattle.refusal.specs.Outcome.{Told, Outcome, accepted, refused, refuse, require, if_then_else_}
+use Rattle.refusal.proofs.Steps.{require-refused}
 use Rattle.refusal.proofs.First.{Stop, first-found}
 use Rattle.grid.specs.Axis.{within, _to_}
 use Rattle.grid.specs.declared.Range.{Range}
@@ -22,16 +23,12 @@ module _ (ns : List ℕ) (i : ℕ) (range : Range) (b : Bool) (r : range ≡ get
   number-outside t = rw (← r, ← e, t)
 
 -- a test that refuses gives its own place
-require-place : (b : Bool) (number place : ℕ) (t : Told) → require b number place ≡ refused t → t ≡ record { number = number; place = place }
-require-place true number place t e = let z : _≡_ {A = ℕ} 0 1 = cc in absurd (omega arith)
-require-place false number place t e = cc
-
 -- the index of a number out of its range is one of the nine
 pub index-below : (ns : List ℕ) (i : ℕ) → refuse 4 i ≡ sensorNumbers ns → i < 9
 unfolding sensorNumbers sensorNumber
 index-below ns i e =
     let s = first-found (sensorNumber ns) 0 9 _ (sym e) in
-    let p = require-place (within (getD sensorRanges (s .at) (0 to 0)) (getD ns (s .at) 0)) 4 (s .at) _ (s .here) in
+    let p = require-refused (within (getD sensorRanges (s .at) (0 to 0)) (getD ns (s .at) 0)) 4 (s .at) _ (s .here) .1 in
     omega (arith, ap (λ (t : Told). t .place) p, s .below)
 
 -- the nine numbers of a body of 18 bytes, once they are written to nine places

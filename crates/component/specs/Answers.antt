@@ -10,7 +10,7 @@ use Rattle.refusal.specs.Table.{told}
 use Rattle.grid.specs.Map.{speedsOf, torquesOf}
 use Rattle.grid.specs.declared.Grid.{Grid}
 use Rattle.component.specs.Field.{Head, Field, exactly, numbers}
-use Rattle.component.specs.Component.{Run, Axle as AxleSays, Axes as AxesSay, Rows, Kind, standard, measured, Component as ComponentSays, component}
+use Rattle.component.specs.Component.{Run, Axle as AxleSays, Axes as AxesSay, Rows, Kind, standard, measured, kindNumber, Component as ComponentSays, component}
 use Rattle.component.specs.Bytes.{between}
 use Rattle.component.specs.declared.sensor.Sensor.{Sensor}
 use Rattle.component.specs.declared.sensor.SensorFault.{SensorFault}
@@ -204,6 +204,8 @@ Unstated (Refused x) c = NoNumbers c
 -- what `read` promises for every byte sequence: which refusal with its number and place, or which numbers
 pub record Reads (bytes : List ℕ) (r : Reading) : Type 0 where
   pub outcome : readingOf bytes r ≡ component bytes
+  -- the kind's number, of which `readingOf` asks only whether it is 1
+  pub kind : (says : ComponentSays) → component bytes ≡ accepted says → r .component .kind ≡ kindNumber (says .kind)
   pub counts : CountsWithin (r .component .grid)
   pub rows : Within (length bytes) (r .component .rows)
   pub unstated : Unstated (r .answer) (r .component)

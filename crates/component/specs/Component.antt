@@ -20,6 +20,11 @@ pub data Kind : Type 0 where
   standard : Kind
   measured : (input output : Sensor) (rows : Rows) → Kind
 
+-- the number that tag 1 has for it
+abbrev pub kindNumber : Kind → ℕ
+kindNumber standard = 1
+kindNumber (measured input output rows) = 2
+
 -- what component data says
 pub record Component : Type 0 where
   pub kind : Kind

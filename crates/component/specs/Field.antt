@@ -16,7 +16,7 @@ exactly bytes length = eqb length bytes
 abbrev pub numbers : ℕ → ℕ → ℕ → Bool
 numbers fewest most length = eqb (length % 2) 0 && (leb fewest (length / 2) && leb (length / 2) most)
 
--- a field head that was read: its tag, and the part of the data that the body occupies, from start up to end
+-- a field head that was read: the tag that stands there, and the part of the data that the body occupies, from start up to end
 pub record Head : Type 0 where
   pub tag : ℕ
   pub start : ℕ
@@ -32,7 +32,7 @@ head bytes at tag allowed =
       _ ← require (eqb (getD bytes at 0) tag) 2 at
       _ ← require (allowed bodyLength) 3 at
       _ ← require (leb (at + 3 + bodyLength) (length bytes)) 1 at
-      accepted (record { tag = tag; start = at + 3; end = at + 3 + bodyLength })
+      accepted (record { tag = getD bytes at 0; start = at + 3; end = at + 3 + bodyLength })
 
 -- what a field says, where its body starts, and the place past it
 pub record Field (A : Type 0) : Type 0 where

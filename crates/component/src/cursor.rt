@@ -78,7 +78,7 @@ fn allows(allowed: Allowed, length: usize) -> bool
     }
 }
 
-// A field whose head is right and whose body is there: the body starts at start and ends before next.
+// A field whose head is right and whose body is there: kind is the tag that was read, the body starts at start and ends before next.
 pub enum FieldRead {
     Field {
         kind: u8,
@@ -100,7 +100,8 @@ impl Cursor {
         if data.len() - at < 3 {
             return FieldRead::Refused(Refusal::Incomplete(at));
         }
-        if data[at] != tag {
+        let kind = data[at];
+        if kind != tag {
             return FieldRead::Refused(Refusal::WrongTag(at));
         }
         let length_at = at + 1;
@@ -113,7 +114,7 @@ impl Cursor {
             return FieldRead::Refused(Refusal::Incomplete(at));
         }
         FieldRead::Field {
-            kind: tag,
+            kind,
             start,
             next: Cursor { at: start + length },
         }

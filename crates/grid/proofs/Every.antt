@@ -2,6 +2,7 @@
 use Prim.Native.Nat.{ℕ, zero, suc, _+_, _≤_, _<_}
 use mathlib.Core.Path.{_≡_, refl}
 use mathlib.Core.Bool.{Bool, true, false, _&&_}
+use mathlib.Core.Logic.{_⊎_, inl, inr}
 use native.Mathlib.Numerals.{add-one}
 use native.Mathlib.Omega.{arith}
 use native.Mathlib.Decide.{decLt}
@@ -19,6 +20,11 @@ and-fst false b e = e
 pub and-snd : (a b : Bool) → (a && b) ≡ true → b ≡ true
 and-snd true b e = e
 and-snd false b e = cc
+
+-- and one part that does not, where it does not hold
+pub and-not : (a b : Bool) → (a && b) ≡ false → (a ≡ false) ⊎ (b ≡ false)
+and-not true b e = inr e
+and-not false b e = inl refl
 
 -- no index is left
 pub every-none : (test : ℕ → Bool) → every test 0 ≡ true

@@ -6,7 +6,7 @@ use mathlib.Core.List.{List}
 use mathlib.Core.Logic.{_⊎_, inl, inr}
 use native.Mathlib.Omega.{arith}
 use lib.ListN.{getD}
-use Rattle.refusal.specs.Outcome.{Told, Outcome, accepted, refused, refuse, require, _>>=_, if_then_else_, firstRefusal}
+use Rattle.refusal.specs.Outcome.{Told, refusal, Outcome, accepted, refused, refuse, require, _>>=_, if_then_else_, firstRefusal}
 use Rattle.grid.specs.Every.{every}
 use Rattle.grid.specs.Axis.{within, rises, axisNumber, axisNumbers}
 use Rattle.grid.specs.declared.Range.{Range}
@@ -59,10 +59,10 @@ same s t e = cc
 which-test : (i : ℕ) (t : Told) (a b : Bool) → (require a 4 i >>= λ _. require b 5 i) ≡ refused t → (t .place ≡ i) × (((t .number ≡ 4) × (a ≡ false)) ⊎ ((t .number ≡ 5) × (a ≡ true) × (b ≡ false)))
 which-test i t true true e = let z : _≡_ {A = ℕ} 0 1 = cc in absurd (omega arith)
 which-test i t true false e =
-    let s = sym (same (record { number = 5; place = i }) t e) in
+    let s = sym (same (refusal 5 i) t e) in
     (ap (λ (u : Told). u .place) s, inr (ap (λ (u : Told). u .number) s, refl, refl))
 which-test i t false b e =
-    let s = sym (same (record { number = 4; place = i }) t e) in
+    let s = sym (same (refusal 4 i) t e) in
     (ap (λ (u : Told). u .place) s, inl (ap (λ (u : Told). u .number) s, refl))
 
 pub number-refused : (range : Range) (ns : List ℕ) (i : ℕ) (t : Told) → axisNumber range ns i ≡ refused t → (t .place ≡ i) × Wrong range ns i t

@@ -11,14 +11,15 @@ use borrow.Author.Tests.{leb-true, le-leb, lt-leb, ltb-true, ltb-false, lt-ltb, 
 use lib.Dec.{leb}
 use lib.ListN.{length, getD, drop}
 use lib.Seq.{drop-cons, drop-length}
-use Rattle.refusal.specs.Outcome.{Told, Outcome, accepted, refused, refuse, require, _>>=_, firstRefusal}
+use Rattle.refusal.specs.Outcome.{refusal, Told, Outcome, accepted, refused, refuse, require, _>>=_, firstRefusal}
 use Rattle.refusal.proofs.Steps.{require-accepted, require-refused}
-use Rattle.refusal.proofs.First.{first-all, first-rest, first-stops, first-found}
+use Rattle.refusal.proofs.First.{first-all, first-refused, first-found}
 use Rattle.grid.specs.Axis.{_to_, within, rises, axisNumber, axisNumbers, firstStep}
 use Rattle.grid.specs.declared.Range.{Range}
-use Rattle.grid.proofs.Every.{and-fst, and-snd, every-of}
-use Rattle.grid.proofs.Numbers.{rightAt, Wrong, numbers-accepted, numbers-refused, number-right, number-outside, number-level}
-use Rattle.grid.proofs.Axis.{axis-accepted}
+use Rattle.grid.proofs.Every.{and-fst, and-snd}
+use Rattle.grid.proofs.Numbers.{Wrong, numbers-refused, number-right, number-outside, number-level}
+use Rattle.grid.specs.Rules.{InRange, AxisRules, FirstStep}
+use Rattle.grid.proofs.Axis.{in-range, within-range, not-in-range, not-within, rises-next, rises-of, axis-accepted, rules-accepted}
 use Rattle.component.specs.Bytes.{numberOf, pairs}
 use Rattle.component.specs.Field.{exactly, numbers, number, axis}
 use Rattle.component.specs.Sensor as sensors
@@ -28,34 +29,10 @@ use Rattle.component.specs.declared.sensor.Sensor.{Sensor}
 use Rattle.component.proofs.Heads.{numbers-bounds}
 use Rattle.component.proofs.Pairs.{length-pairs}
 use Rattle.layout.specs.Layout.{twoBytes, numberBytes, sensorNumbers}
-use Rattle.layout.specs.Rules.{AreBytes, InRange, AxisRules, SensorRules}
-use Rattle.layout.specs.Faults.{refusal, NumberFault, AxisFault, TorqueFault, numbers-wrong, step-wrong, SensorFault, NoFault}
+use Rattle.layout.specs.Rules.{AreBytes, SensorRules}
+use Rattle.layout.specs.Faults.{NumberFault, AxisFault, TorqueFault, numbers-wrong, step-wrong, SensorFault, NoFault}
 use Rattle.layout.proofs.FieldBytes.{number-of-one, number-of-two, number-bytes-one, number-bytes-two, pairs-number-bytes, number-bytes-pairs}
 use Rattle.layout.proofs.OneField.{Decided, wrong, right, told-as, Checked}
-
--- ---- a range
-module _ (range : Range) (n : ℕ) where
-  pub in-range : within range n ≡ true → InRange range n
-  unfolding within
-  in-range e =
-      (leb-true _ _ (and-fst (leb (range .lowest) n) (leb n (range .highest)) e), leb-true _ _ (and-snd (leb (range .lowest) n) (leb n (range .highest)) e))
-
-  pub within-range : InRange range n → within range n ≡ true
-  unfolding within
-  within-range r = rw (le-leb _ _ (r .0), le-leb _ _ (r .1))
-
-  pub not-in-range : within range n ≡ false → InRange range n → ⊥
-  not-in-range e r =
-      let s = within-range r in
-      let z : _≡_ {A = ℕ} 0 1 = cc in
-      omega arith
-
-  pub not-within : (InRange range n → ⊥) → within range n ≡ false
-  not-within f = go (within range n) refl
-    where
-      go : (b : Bool) → within range n ≡ b → within range n ≡ false
-      go true e = absurd (f (in-range e))
-      go false e = e
 
 -- ---- a body of one number
 module _ (range : Range) (allowed : ℕ → Bool) (bytesOf : ℕ → List ℕ) (said : (n : ℕ) → numberOf (bytesOf n) ≡ n)
@@ -83,19 +60,6 @@ two-bytes-checked range =
     number-checked range (exactly 2) twoBytes number-of-two (λ body b fits. number-bytes-two body b (eqb-true (length body) 2 fits))
 
 -- ---- a body of axis numbers
-rises-after : (ns : List ℕ) (i : ℕ) → rises ns (i + 1) ≡ true → getD ns i 0 < getD ns (i + 1) 0
-unfolding rises
-rises-after ns i e =
-    let s : i + 1 - 1 ≡ i = omega arith in
-    ltb-true _ _ (rw (ne-eqb (i + 1) 0 (omega arith), s) at e)
-
-rises-of : (ns : List ℕ) (i : ℕ) → ((j : ℕ) → j + 1 ≡ i → getD ns j 0 < getD ns (j + 1) 0) → rises ns i ≡ true
-unfolding rises
-rises-of ns zero f = refl
-rises-of ns (suc i) f =
-    let s : suc i - 1 ≡ i = omega arith in
-    rw (ne-eqb (suc i) 0 (omega arith), s, lt-ltb (getD ns i 0) (getD ns (suc i) 0) (rw add-one at (f i (omega arith))))
-
 level : (ns : List ℕ) (i : ℕ) → rises ns i ≡ false → (0 < i) × (getD ns i 0 ≤ getD ns (i - 1) 0)
 unfolding rises
 level ns zero e = let z : _≡_ {A = ℕ} 0 1 = cc in absurd (omega arith)
@@ -104,16 +68,6 @@ level ns (suc i) e = (omega arith, ltb-false _ _ (rw (ne-eqb (suc i) 0 (omega ar
 not-rising : (ns : List ℕ) (i : ℕ) → 0 < i → getD ns i 0 ≤ getD ns (i - 1) 0 → rises ns i ≡ false
 unfolding rises
 not-rising ns i h k = rw (ne-eqb i 0 (omega arith), le-ltb (getD ns (i - 1) 0) (getD ns i 0) k)
-
-module _ (range : Range) (most : ℕ) where
-  axis-rules : (ns : List ℕ) → 2 ≤ length ns → length ns ≤ most → axisNumbers range ns (length ns) ≡ accepted tt → AxisRules range most ns
-  axis-rules ns two fits e =
-      let a = axis-accepted most range ns (length ns) two fits e in
-      record { at-least = two; at-most = fits; ranges = λ i l. (a .low i l, a .high i l); rising = a .rises }
-
-  rules-accepted : (ns : List ℕ) → AxisRules range most ns → axisNumbers range ns (length ns) ≡ accepted tt
-  rules-accepted ns r =
-      numbers-accepted range ns (length ns) (every-of (rightAt range ns) (length ns) (λ k l. rw (within-range range (getD ns k 0) (r .ranges k l)) (rises-of ns k (λ j e. r .rising j (omega arith)))))
 
 module _ (range : Range) (body : List ℕ) (place : ℕ) where
   wrong-number : (t : Told) (i : ℕ) → t .place ≡ i → Wrong range (pairs body) i t
@@ -132,7 +86,7 @@ module _ (range : Range) (body : List ℕ) (place : ℕ) where
         index = f .index;
         below = f .below;
         ranges = λ i l. in-range range (getD ns i 0) (and-fst (within range (getD ns i 0)) (rises ns i) (f .right i l));
-        rising = λ i l. rises-after ns i (and-snd (within range (getD ns (i + 1) 0)) (rises ns (i + 1)) (f .right (i + 1) l));
+        rising = λ i l. rises-next ns i (and-snd (within range (getD ns (i + 1) 0)) (rises ns (i + 1)) (f .right (i + 1) l));
         wrong = wrong-number t (f .index) (f .place) (f .wrong);
       }
 
@@ -143,9 +97,8 @@ module _ (range : Range) (body : List ℕ) (place : ℕ) where
   axis-stops number i below ranges rising e =
       let ns = pairs body in
       let stops : firstRefusal (axisNumber range ns) 0 (length ns) ≡ refuse number i =
-      first-rest (axisNumber range ns) (length ns) i (omega arith)
-      (λ k l. number-right range ns k (within-range range (getD ns k 0) (ranges k l)) (rises-of ns k (λ j h. rising j (omega arith))))
-      ∙ first-stops (axisNumber range ns) i (length ns) (refusal number i) below e
+      first-refused (axisNumber range ns) (length ns) i (refusal number i) below
+      (λ k l. number-right range ns k (within-range range (getD ns k 0) (ranges k l)) (rises-of ns k (λ j h. rising j (omega arith)))) e
       in
       rw stops
 
@@ -156,23 +109,23 @@ module _ (range : Range) (body : List ℕ) (place : ℕ) where
   ]
 
 module _ (range : Range) (most : ℕ) where
-  axis-accepts : (ns : List ℕ) (place : ℕ) → AxisRules range most ns → axis range (numberBytes ns) place ≡ accepted ns
+  axis-accepts : (ns : List ℕ) (place : ℕ) → AxisRules range most ns (length ns) → axis range (numberBytes ns) place ≡ accepted ns
   unfolding axis
-  axis-accepts ns place r = rw (pairs-number-bytes ns, rules-accepted range most ns r)
+  axis-accepts ns place r = rw (pairs-number-bytes ns, rules-accepted range most ns (length ns) r)
 
   axis-decided : (body : List ℕ) (place : ℕ) → AreBytes body → numbers 2 most (length body) ≡ true
-      → Decided (AxisFault range body place) (λ (ns : List ℕ). (body ≡ numberBytes ns) × AxisRules range most ns)
+      → Decided (AxisFault range body place) (λ (ns : List ℕ). (body ≡ numberBytes ns) × AxisRules range most ns (length ns))
   axis-decided body place b fits = go (axisNumbers range (pairs body) (length (pairs body))) refl
     where
       go : (o : Outcome (Unit {0})) → axisNumbers range (pairs body) (length (pairs body)) ≡ o
-          → Decided (AxisFault range body place) (λ (ns : List ℕ). (body ≡ numberBytes ns) × AxisRules range most ns)
+          → Decided (AxisFault range body place) (λ (ns : List ℕ). (body ≡ numberBytes ns) × AxisRules range most ns (length ns))
       go (accepted u) e =
           let bounds = numbers-bounds 2 most (length body) fits in
           let count = length-pairs body in
-          right (pairs body) (sym (number-bytes-pairs body b (bounds .0)), axis-rules range most (pairs body) (omega (arith, bounds .1, count)) (omega (arith, bounds .2, count)) e)
+          right (pairs body) (sym (number-bytes-pairs body b (bounds .0)), axis-accepted range most (pairs body) (length (pairs body)) (omega (arith, bounds .1, count)) (omega (arith, bounds .2, count)) e)
       go (refused t) e = wrong (refusal (t .number) (place + 2 * t .place)) (axis-fault range body place t e)
 
-  pub axis-checked : Checked (numbers 2 most) (axis range) numberBytes (λ ns place. AxisRules range most ns) (AxisFault range)
+  pub axis-checked : Checked (numbers 2 most) (axis range) numberBytes (λ ns place. AxisRules range most ns (length ns)) (AxisFault range)
   axis-checked = record { decided = axis-decided; accepts = axis-accepts; refuses = axis-refused range }
 
 -- ---- the torque axis: its numbers, then the first step
@@ -183,8 +136,8 @@ torqueAxis body place = do
   accepted ns
 
 pub record TorqueRules (ns : List ℕ) : Type 0 where
-  pub rules : AxisRules (0 to 50000) 64 ns
-  pub step : getD ns 0 0 ≤ getD ns 1 0 - getD ns 0 0
+  pub rules : AxisRules (0 to 50000) 64 ns (length ns)
+  pub step : FirstStep ns
 
 torque-decided : (body : List ℕ) (place : ℕ) → AreBytes body → numbers 2 64 (length body) ≡ true
     → Decided (TorqueFault body place) (λ (ns : List ℕ). (body ≡ numberBytes ns) × TorqueRules ns)
@@ -206,7 +159,7 @@ torque-refused : (body : List ℕ) (place : ℕ) (t : Told) → TorqueFault body
 unfolding axis firstStep
 torque-refused body place t (numbers-wrong f) = rw (axis-refused (0 to 50000) body place t f)
 torque-refused body place t (step-wrong r over e) =
-    told-as _ t _ (rw (rules-accepted (0 to 50000) 64 (pairs body) r, lt-leb (getD (pairs body) 0 0) (getD (pairs body) 1 0 - getD (pairs body) 0 0) over)) e
+    told-as _ t _ (rw (rules-accepted (0 to 50000) 64 (pairs body) (length (pairs body)) r, lt-leb (getD (pairs body) 0 0) (getD (pairs body) 1 0 - getD (pairs body) 0 0) over)) e
 
 pub torque-checked : Checked (numbers 2 64) torqueAxis numberBytes (λ ns place. TorqueRules ns) TorqueFault
 torque-checked = record { decided = torque-decided; accepts = torque-accepts; refuses = torque-refused }
@@ -283,8 +236,8 @@ sensor-refused body place t f =
     let ns = pairs body in
     let i = f .index in
     let stops : firstRefusal (sensorNumber ns) 0 9 ≡ refuse 4 i =
-    first-rest (sensorNumber ns) 9 i (omega (arith, f .below)) (λ k l. rw (within-range _ (getD ns k 0) (f .ranges k l)))
-    ∙ first-stops (sensorNumber ns) i 9 (refusal 4 i) (f .below) (rw (not-within _ (getD ns i 0) (f .outside)))
+    first-refused (sensorNumber ns) 9 i (refusal 4 i) (f .below) (λ k l. rw (within-range _ (getD ns k 0) (f .ranges k l)))
+    (rw (not-within _ (getD ns i 0) (f .outside)))
     in
     told-as _ t _ (rw stops) (f .told)
 

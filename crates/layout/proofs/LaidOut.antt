@@ -2,22 +2,24 @@
 use Prim.Native.Nat.{ℕ, _+_, _-_, _*_, _/_, _%_, _≤_}
 use mathlib.Core.Path.{_≡_, refl, sym, ap, _∙_}
 use mathlib.Core.Bool.{true}
-use mathlib.Core.List.{List, [], _∷_, _++_, append-nil}
+use mathlib.Core.List.{List, [], _∷_, _++_, append-nil, append-assoc}
 use native.Mathlib.Omega.{arith}
 use borrow.Author.Tests.{le-leb, eq-eqb, eqb-true}
-use lib.ListN.{length, getD, drop, length-drop, drop-of-length-le}
+use lib.ListN.{length, getD, drop, length-append, drop-of-length-le}
 use Rattle.grid.specs.Axis.{_to_}
+use Rattle.grid.specs.Rules.{InRange, AxisRules, FirstStep}
 use Rattle.grid.specs.declared.Range.{Range}
 use Rattle.component.specs.Field.{exactly, numbers}
+use Rattle.component.specs.Component.{Kind}
 use Rattle.component.specs.declared.sensor.Sensor.{Sensor}
 use Rattle.layout.specs.Layout.{twoBytes, numberBytes, fieldBytes, sensorNumbers}
-use Rattle.layout.specs.Rules.{InRange, AxisRules, SensorRules}
+use Rattle.layout.specs.Rules.{SensorRules, Rules}
 use Rattle.layout.specs.Faults.{Stands}
 use Rattle.layout.specs.Acceptance.{AxleStands, SpeedsStand, TorquesStand, SensorStands, AxesStand}
-use Rattle.layout.proofs.FieldBytes.{length-number-bytes, from-field, field-stands, after-field}
+use Rattle.layout.proofs.FieldBytes.{length-number-bytes, length-field-bytes, from-field, field-stands, after-field}
 
 -- the length of an axis that keeps its rules is allowed
-numbers-fit : (range : Range) (most : ℕ) (ns : List ℕ) → AxisRules range most ns → numbers 2 most (length (numberBytes ns)) ≡ true
+numbers-fit : (range : Range) (most : ℕ) (ns : List ℕ) → AxisRules range most ns (length ns) → numbers 2 most (length (numberBytes ns)) ≡ true
 numbers-fit range most ns r =
     let even : 2 * length ns % 2 ≡ 0 = omega arith in
     let half : 2 * length ns / 2 ≡ length ns = omega arith in
@@ -53,17 +55,32 @@ module _ (bytes rest : List ℕ) (kind line ratio : ℕ) (speeds torques : List 
     ratio-range = r;
   }
 
-  pub speeds-laid : AxisRules (1 to 3000) 32 speeds → SpeedsStand bytes speeds
+  pub speeds-laid : AxisRules (1 to 3000) 32 speeds (length speeds) → SpeedsStand bytes speeds
   speeds-laid r = record {
     there = field-stands bytes 13 4 (numbers 2 32) (numberBytes speeds) _ from-speeds (numbers-fit (1 to 3000) 32 speeds r);
     rules = r;
   }
 
-  pub torques-laid : AxisRules (0 to 50000) 64 torques → getD torques 0 0 ≤ getD torques 1 0 - getD torques 0 0 → TorquesStand bytes (length speeds) torques
+  pub torques-laid : AxisRules (0 to 50000) 64 torques (length torques) → FirstStep torques → TorquesStand bytes (length speeds) torques
   torques-laid r h = record {
     there = field-stands bytes (16 + 2 * length speeds) 5 (numbers 2 64) (numberBytes torques) _ from-torques (numbers-fit (0 to 50000) 64 torques r);
     rules = r;
     step = h;
+  }
+
+  -- all five
+  abbrev pub axes-laid : InRange (1 to 2) kind → (k : Kind) → Rules (record { kind = k; line = line; ratio = ratio; speeds = speeds; torques = torques })
+      → AxesStand bytes kind (length speeds) (length torques)
+  axes-laid h k r = record {
+    line = line;
+    ratio = ratio;
+    speeds = speeds;
+    torques = torques;
+    axle-stands = axle-laid h (r .line) (r .ratio);
+    speeds-stand = speeds-laid (r .speeds);
+    torques-stand = torques-laid (r .torques) (r .step);
+    speed-count = refl;
+    torque-count = refl;
   }
 
 -- and back
@@ -80,10 +97,6 @@ five-fields bytes kind m n s =
     let e5 = from-field bytes (16 + 2 * m) 5 (numbers 2 64) (numberBytes (s .torques)) (19 + 2 * m + 2 * n) tc (s .torques-stand .there) in
     rw (← e5, ← e4, ← e3, ← e2, ← e1)
 
--- nothing is left from a place on
-pub none-after : (bytes : List ℕ) (place : ℕ) → drop place bytes ≡ [] → length bytes ≤ place
-none-after bytes place e = omega (arith, length-drop place bytes, ap length e)
-
 -- ---- tags 6 to 8, after m speeds and n torques
 module _ (bytes : List ℕ) (m n : ℕ) (input output : Sensor) (body : List ℕ) where
   input-ends : 19 + 2 * m + 2 * n + 3 + length (numberBytes (sensorNumbers input)) ≡ 40 + 2 * m + 2 * n
@@ -92,15 +105,14 @@ module _ (bytes : List ℕ) (m n : ℕ) (input output : Sensor) (body : List ℕ
   output-ends : 40 + 2 * m + 2 * n + 3 + length (numberBytes (sensorNumbers output)) ≡ 61 + 2 * m + 2 * n
   output-ends = omega (arith, length-number-bytes (sensorNumbers output))
 
-  module _ (laid : drop (19 + 2 * m + 2 * n) bytes ≡ fieldBytes 6 (numberBytes (sensorNumbers input)) ++ (fieldBytes 7 (numberBytes (sensorNumbers output)) ++ fieldBytes 8 body)) where
-    from-output : drop (40 + 2 * m + 2 * n) bytes ≡ fieldBytes 7 (numberBytes (sensorNumbers output)) ++ fieldBytes 8 body
+  module _ (more : List ℕ)
+      (laid : drop (19 + 2 * m + 2 * n) bytes ≡ fieldBytes 6 (numberBytes (sensorNumbers input)) ++ (fieldBytes 7 (numberBytes (sensorNumbers output)) ++ (fieldBytes 8 body ++ more))) where
+    from-output : drop (40 + 2 * m + 2 * n) bytes ≡ fieldBytes 7 (numberBytes (sensorNumbers output)) ++ (fieldBytes 8 body ++ more)
     from-output =
         after-field bytes (19 + 2 * m + 2 * n) 6 (exactly 18) (numberBytes (sensorNumbers input)) _ laid (40 + 2 * m + 2 * n) input-ends
 
-    from-rows : drop (61 + 2 * m + 2 * n) bytes ≡ fieldBytes 8 body ++ []
-    from-rows =
-        after-field bytes (40 + 2 * m + 2 * n) 7 (exactly 18) (numberBytes (sensorNumbers output)) _ from-output (61 + 2 * m + 2 * n) output-ends
-        ∙ sym (append-nil (fieldBytes 8 body))
+    from-rows : drop (61 + 2 * m + 2 * n) bytes ≡ fieldBytes 8 body ++ more
+    from-rows = after-field bytes (40 + 2 * m + 2 * n) 7 (exactly 18) (numberBytes (sensorNumbers output)) _ from-output (61 + 2 * m + 2 * n) output-ends
 
     pub input-laid : SensorRules input → SensorStands bytes (19 + 2 * m + 2 * n) 6 input
     input-laid r =
@@ -110,13 +122,8 @@ module _ (bytes : List ℕ) (m n : ℕ) (input output : Sensor) (body : List ℕ
     output-laid r =
         record { there = field-stands bytes (40 + 2 * m + 2 * n) 7 (exactly 18) (numberBytes (sensorNumbers output)) _ from-output (rw (length-number-bytes (sensorNumbers output))); rules = r }
 
-    module _ (long : length body ≡ 8 * (m * n)) where
-      pub rows-laid : Stands bytes (61 + 2 * m + 2 * n) 8 (exactly (8 * (m * n))) body
-      rows-laid = field-stands bytes (61 + 2 * m + 2 * n) 8 (exactly (8 * (m * n))) body [] from-rows (eq-eqb (length body) (8 * (m * n)) long)
-
-      pub none-after-rows : length bytes ≤ 64 + 2 * m + 2 * n + 8 * (m * n)
-      none-after-rows =
-          none-after bytes (64 + 2 * m + 2 * n + 8 * (m * n)) (after-field bytes (61 + 2 * m + 2 * n) 8 (exactly (8 * (m * n))) body [] from-rows (64 + 2 * m + 2 * n + 8 * (m * n)) (omega arith))
+    pub rows-laid : length body ≡ 8 * (m * n) → Stands bytes (61 + 2 * m + 2 * n) 8 (exactly (8 * (m * n))) body
+    rows-laid long = field-stands bytes (61 + 2 * m + 2 * n) 8 (exactly (8 * (m * n))) body more from-rows (eq-eqb (length body) (8 * (m * n)) long)
 
   -- and back
   pub three-fields : SensorStands bytes (19 + 2 * m + 2 * n) 6 input → SensorStands bytes (40 + 2 * m + 2 * n) 7 output
@@ -130,3 +137,26 @@ module _ (bytes : List ℕ) (m n : ℕ) (input output : Sensor) (body : List ℕ
       let e8 = from-field bytes (61 + 2 * m + 2 * n) 8 (exactly (8 * (m * n))) body end (omega arith) r in
       let f8 : drop (61 + 2 * m + 2 * n) bytes ≡ fieldBytes 8 body = e8 ∙ rw (drop-of-length-le bytes none) (append-nil (fieldBytes 8 body)) in
       rw (← f8, ← e7, ← e6)
+
+-- ---- all fields, and more bytes after them
+module _ (kind line ratio : ℕ) (speeds torques rest : List ℕ) where
+  abbrev fiveFields : List ℕ → List ℕ
+  fiveFields after =
+      fieldBytes 1 (kind ∷ []) ++ (fieldBytes 2 (line ∷ []) ++ (fieldBytes 3 (twoBytes ratio) ++ (fieldBytes 4 (numberBytes speeds) ++ (fieldBytes 5 (numberBytes torques) ++ after))))
+
+  pub laid-more : (more : List ℕ) → fiveFields rest ++ more ≡ fiveFields (rest ++ more)
+  laid-more more = simp append-assoc
+
+  pub length-five : length (fiveFields rest) ≡ 19 + 2 * length speeds + 2 * length torques + length rest
+  length-five = simp (length-append, length-field-bytes, length-number-bytes) (omega arith)
+
+module _ (input output : Sensor) (body : List ℕ) where
+  abbrev threeFields : List ℕ
+  threeFields = fieldBytes 6 (numberBytes (sensorNumbers input)) ++ (fieldBytes 7 (numberBytes (sensorNumbers output)) ++ fieldBytes 8 body)
+
+  pub three-more : (more : List ℕ)
+      → threeFields ++ more ≡ fieldBytes 6 (numberBytes (sensorNumbers input)) ++ (fieldBytes 7 (numberBytes (sensorNumbers output)) ++ (fieldBytes 8 body ++ more))
+  three-more more = simp append-assoc
+
+  pub length-three : length threeFields ≡ 45 + length body
+  length-three = simp (length-append, length-field-bytes, length-number-bytes) (omega arith)

@@ -4,3 +4,4 @@ pub mod BodyChecks
 pub mod Runs
 pub mod LaidOut
 pub mod Theorems
+pub mod Lengths

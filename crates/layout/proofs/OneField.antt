@@ -7,13 +7,13 @@ use native.Mathlib.Omega.{arith}
 use native.Mathlib.Decide.{decLe, ℕ-discrete}
 use lib.ListN.{length, getD, drop, take-append-drop}
 use lib.Seq.{take-append-seam, drop-drop}
-use Rattle.refusal.specs.Outcome.{Told, Outcome, accepted, refused, _>>=_}
+use Rattle.refusal.specs.Outcome.{refusal, Told, Outcome, accepted, refused, _>>=_}
 use Rattle.component.specs.Bytes.{numberOf, between}
 use Rattle.component.specs.Field.{head, field}
 use Rattle.component.proofs.Heads as heads
 use Rattle.layout.specs.Layout.{fieldBytes}
 use Rattle.layout.specs.Rules.{AreBytes}
-use Rattle.layout.specs.Faults.{Stands, lengthAt, refusal, HeadFault, head-incomplete, other-tag, none-left, other-length, body-incomplete, FieldFault, in-head, in-body}
+use Rattle.layout.specs.Faults.{Stands, lengthAt, HeadFault, head-incomplete, other-tag, none-left, other-length, body-incomplete, FieldFault, in-head, in-body}
 use Rattle.layout.proofs.FieldBytes.{length-said, three-bytes, two-bytes-of, between-bytes, from-field, field-stands}
 
 -- what was looked at is wrong, with its refusal, or right, with its value
@@ -84,7 +84,7 @@ module _ (bytes : List ℕ) (at tag : ℕ) (allowed : ℕ → Bool) where
       let high : getD bytes (at + 1) 0 ≡ len / 256 = cc same in
       let low : getD bytes (at + 2) 0 ≡ len % 256 = cc same in
       let said : len ≡ numberOf (between bytes (at + 1) (at + 3)) = omega (arith, length-said bytes at complete) in
-      sym (heads.whole bytes at tag allowed (omega arith) (omega arith) len tagged said (s .fits) (omega (arith, s .ends)))
+      rw tagged at (sym (heads.whole bytes at tag allowed (omega arith) (omega arith) len tagged said (s .fits) (omega (arith, s .ends))))
 
   pub body-there : (body : List ℕ) → Stands bytes at tag allowed body → between bytes (at + 3) (at + 3 + length body) ≡ body
   unfolding fieldBytes

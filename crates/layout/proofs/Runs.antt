@@ -9,13 +9,14 @@ use lib.Dec.{leb}
 use lib.ListN.{length}
 use Rattle.refusal.specs.Outcome.{Told, Outcome, accepted, refused, require, _>>=_}
 use Rattle.grid.specs.Axis.{_to_, firstStep}
+use Rattle.grid.specs.Rules.{InRange}
 use Rattle.component.specs.Bytes.{between}
 use Rattle.component.specs.Field.{Head, Field, head, field, exactly, numbers, number, axis}
 use Rattle.component.specs.Sensor.{sensor}
 use Rattle.component.specs.Component.{Component, Kind, standard, measured, Run, Axes, Rows, axleFields, axesFields, measuredFields, kindFields, component}
 use Rattle.component.specs.declared.sensor.Sensor.{Sensor}
 use Rattle.layout.specs.Layout.{numberBytes, sensorNumbers}
-use Rattle.layout.specs.Rules.{AreBytes, InRange}
+use Rattle.layout.specs.Rules.{AreBytes}
 use Rattle.layout.specs.Faults.{Stands}
 use Rattle.layout.specs.Acceptance.{AxleStands, SpeedsStand, TorquesStand, SensorStands, AxesStand, Fault, in-kind, in-line, in-ratio, in-speeds, in-torques, in-input, in-output, in-rows, after-torques, after-rows}
 use Rattle.layout.proofs.FieldBytes.{length-number-bytes}
@@ -147,25 +148,6 @@ module _ (bytes : List ℕ) where
       after-axes 1 m n s ∙ told-as _ t _ (rw (lt-leb (length bytes) (19 + 2 * m + 2 * n) more)) e
   fault-refused t (after-rows m n input output body s i o r more e) =
       after-axes 2 m n s ∙ told-as _ t _ (rw (measured-read m n input output body i o r, lt-leb (length bytes) (64 + 2 * m + 2 * n + 8 * (m * n)) more)) e
-
-  -- fields that all stand there, and nothing after them
-  pub standard-accepted : (m n : ℕ) (s : AxesStand bytes 1 m n) → length bytes ≤ 19 + 2 * m + 2 * n
-      → component bytes ≡ accepted (record { kind = standard; line = s .line; ratio = s .ratio; speeds = s .speeds; torques = s .torques })
-  unfolding kindFields
-  standard-accepted m n s none = after-axes 1 m n s ∙ rw (le-leb (length bytes) (19 + 2 * m + 2 * n) none)
-
-  pub measured-accepted : (m n : ℕ) (input output : Sensor) (body : List ℕ) (s : AxesStand bytes 2 m n)
-      → SensorStands bytes (19 + 2 * m + 2 * n) 6 input → SensorStands bytes (40 + 2 * m + 2 * n) 7 output
-      → Stands bytes (61 + 2 * m + 2 * n) 8 (exactly (8 * (m * n))) body → length bytes ≤ 64 + 2 * m + 2 * n + 8 * (m * n)
-      → component bytes ≡ accepted (record {
-        kind = measured input output (record { start = 64 + 2 * m + 2 * n; bytes = body });
-        line = s .line;
-        ratio = s .ratio;
-        speeds = s .speeds;
-        torques = s .torques;
-      })
-  measured-accepted m n input output body s i o r none =
-      after-axes 2 m n s ∙ rw (measured-read m n input output body i o r, le-leb (length bytes) (64 + 2 * m + 2 * n + 8 * (m * n)) none)
 
   -- ---- no third case
   module _ (b : AreBytes bytes) where

@@ -1,78 +1,81 @@
 -- Component data is accepted exactly when no refusal applies: the four statements of specs/Acceptance. Assumes nothing.
-use Prim.Native.Nat.{ℕ, _+_, _*_}
+use Prim.Native.Nat.{ℕ, _+_, _*_, _<_}
 use mathlib.Core.Path.{_≡_, refl, sym, ap, _∙_}
 use mathlib.Core.Bool.{Bool}
-use mathlib.Core.List.{List, []}
+use mathlib.Core.List.{List, [], _++_, append-nil}
 use native.Mathlib.Omega.{arith}
 use native.Mathlib.Decide.{decLe, ℕ-discrete}
-use borrow.Author.Tests.{eqb-true}
-use lib.ListN.{length, drop, drop-of-length-le}
-use Rattle.refusal.specs.Outcome.{accepted}
+use borrow.Author.Tests.{eqb-true, le-leb, lt-leb}
+use lib.Dec.{leb}
+use lib.ListN.{length, drop, length-append, drop-of-length-le}
+use Rattle.refusal.specs.Outcome.{refusal, accepted, refuse, require, _>>=_}
 use Rattle.refusal.proofs.Steps.{never, same-value, same-refusal}
 use Rattle.component.specs.Field.{exactly}
-use Rattle.component.specs.Component.{Component, Kind, standard, measured, component}
-use Rattle.layout.specs.Layout.{layout, kindNumber, measuredBytes}
+use Rattle.component.specs.Component.{Component, Kind, standard, measured, kindNumber, Rows, kindFields, component}
+use Rattle.component.specs.declared.sensor.Sensor.{Sensor}
+use Rattle.layout.specs.Layout.{layout, measuredBytes}
 use Rattle.layout.specs.Rules.{AreBytes, KindRules, Rules}
-use Rattle.layout.specs.Faults.{Stands, refusal}
+use Rattle.layout.specs.Faults.{Stands}
 use Rattle.layout.specs.Acceptance.{AxesStand, SensorStands, Fault, in-input, in-output, in-rows, after-torques, after-rows, Sound, Complete, Refused, RefusedOnlyThen}
 use Rattle.layout.proofs.FieldBytes.{between-bytes}
 use Rattle.layout.proofs.OneField.{Decided, wrong, right, body-there, field-decided}
 use Rattle.layout.proofs.BodyChecks.{sensor-checked, rows-checked}
-use Rattle.layout.proofs.Runs.{fault-refused, standard-accepted, measured-accepted, axes-decided}
-use Rattle.layout.proofs.LaidOut.{axle-laid, speeds-laid, torques-laid, after-five, five-fields, none-after, input-laid, output-laid, rows-laid, none-after-rows, three-fields}
+use Rattle.layout.proofs.Runs.{fault-refused, measured-read, after-axes, axes-decided}
+use Rattle.layout.proofs.LaidOut.{axes-laid, after-five, five-fields, input-laid, output-laid, rows-laid, three-fields, laid-more, length-five, three-more, length-three}
 
 -- ---- numbers that keep every rule
-complete-kind : (kind : Kind) (line ratio : ℕ) (speeds torques : List ℕ)
-    → Rules (record { kind = kind; line = line; ratio = ratio; speeds = speeds; torques = torques })
-    → component (layout (record { kind = kind; line = line; ratio = ratio; speeds = speeds; torques = torques }))
-    ≡ accepted (record { kind = kind; line = line; ratio = ratio; speeds = speeds; torques = torques })
+
+-- how long their fields are
+pub length-standard : (line ratio : ℕ) (speeds torques : List ℕ)
+    → length (layout (record { kind = standard; line = line; ratio = ratio; speeds = speeds; torques = torques })) ≡ 19 + 2 * length speeds + 2 * length torques
 unfolding layout measuredBytes
-complete-kind standard line ratio speeds torques r =
-    let bytes = layout (record { kind = standard; line = line; ratio = ratio; speeds = speeds; torques = torques }) in
-    let m = length speeds in
-    let n = length torques in
-    let s : AxesStand bytes 1 m n = record {
-      line = line;
-      ratio = ratio;
-      speeds = speeds;
-      torques = torques;
-      axle-stands = axle-laid bytes [] 1 line ratio speeds torques refl (omega arith) (r .line) (r .ratio);
-      speeds-stand = speeds-laid bytes [] 1 line ratio speeds torques refl (r .speeds);
-      torques-stand = torques-laid bytes [] 1 line ratio speeds torques refl (r .torques) (r .step);
-      speed-count = refl;
-      torque-count = refl;
-    } in
-    standard-accepted bytes m n s (none-after bytes (19 + 2 * m + 2 * n) (after-five bytes [] 1 line ratio speeds torques refl))
-complete-kind (measured input output rows) line ratio speeds torques r =
-    let bytes = layout (record { kind = measured input output rows; line = line; ratio = ratio; speeds = speeds; torques = torques }) in
-    let rest = measuredBytes (measured input output rows) in
+length-standard line ratio speeds torques = omega (arith, length-five 1 line ratio speeds torques [])
+
+pub length-measured : (line ratio : ℕ) (speeds torques : List ℕ) (input output : Sensor) (rows : Rows) → length (rows .bytes) ≡ 8 * (length speeds * length torques)
+    → length (layout (record { kind = measured input output rows; line = line; ratio = ratio; speeds = speeds; torques = torques }))
+    ≡ 64 + 2 * length speeds + 2 * length torques + 8 * (length speeds * length torques)
+unfolding layout measuredBytes
+length-measured line ratio speeds torques input output rows long =
+    omega (arith, length-five 2 line ratio speeds torques (measuredBytes (measured input output rows)), length-three input output (rows .bytes), long)
+
+-- what is laid out, with more bytes after it: all is read, and then nothing may be left
+laid-then : (kind : Kind) (line ratio : ℕ) (speeds torques more : List ℕ)
+    → let c : Component = record { kind = kind; line = line; ratio = ratio; speeds = speeds; torques = torques } in
+    Rules c → component (layout c ++ more) ≡ (require (leb (length (layout c ++ more)) (length (layout c))) 12 (length (layout c)) >>= λ _. accepted c)
+unfolding layout measuredBytes kindFields
+laid-then standard line ratio speeds torques more r =
+    let c : Component = record { kind = standard; line = line; ratio = ratio; speeds = speeds; torques = torques } in
+    let s = axes-laid (layout c ++ more) more 1 line ratio speeds torques (laid-more 1 line ratio speeds torques [] more) (omega arith) standard r in
+    after-axes (layout c ++ more) 1 (length speeds) (length torques) s ∙ rw (length-standard line ratio speeds torques)
+laid-then (measured input output rows) line ratio speeds torques more r =
+    let c : Component = record { kind = measured input output rows; line = line; ratio = ratio; speeds = speeds; torques = torques } in
+    let bytes = layout c ++ more in
     let m = length speeds in
     let n = length torques in
     let k = r .kind in
-    let s : AxesStand bytes 2 m n = record {
-      line = line;
-      ratio = ratio;
-      speeds = speeds;
-      torques = torques;
-      axle-stands = axle-laid bytes rest 2 line ratio speeds torques refl (omega arith) (r .line) (r .ratio);
-      speeds-stand = speeds-laid bytes rest 2 line ratio speeds torques refl (r .speeds);
-      torques-stand = torques-laid bytes rest 2 line ratio speeds torques refl (r .torques) (r .step);
-      speed-count = refl;
-      torque-count = refl;
-    } in
-    let laid = after-five bytes rest 2 line ratio speeds torques refl in
-    let e = measured-accepted bytes m n input output (rows .bytes) s (input-laid bytes m n input output (rows .bytes) laid (k .0)) (output-laid bytes m n input output (rows .bytes) laid (k .1))
-    (rows-laid bytes m n input output (rows .bytes) laid (k .2)) (none-after-rows bytes m n input output (rows .bytes) laid (k .2)) in
+    let five = laid-more 2 line ratio speeds torques (measuredBytes (c .kind)) more in
+    let s = axes-laid bytes (measuredBytes (c .kind) ++ more) 2 line ratio speeds torques five (omega arith) (c .kind) r in
+    let laid = after-five bytes (measuredBytes (c .kind) ++ more) 2 line ratio speeds torques five ∙ three-more input output (rows .bytes) more in
     let start : rows .start ≡ 64 + 2 * m + 2 * n = k .4 in
-    e ∙ rw (← start)
+    after-axes bytes 2 m n s
+    ∙ rw (measured-read bytes m n input output (rows .bytes) (input-laid bytes m n input output (rows .bytes) more laid (k .0)) (output-laid bytes m n input output (rows .bytes) more laid (k .1)) (rows-laid bytes m n input output (rows .bytes) more laid (k .2)), length-measured line ratio speeds torques input output rows (k .2), ← start)
 
 -- what is laid out is read as those numbers
 pub complete : Complete
-complete c r = complete-kind (c .kind) (c .line) (c .ratio) (c .speeds) (c .torques) r
+complete c r =
+    let e = laid-then (c .kind) (c .line) (c .ratio) (c .speeds) (c .torques) [] r in
+    rw (append-nil (layout c), le-leb (length (layout c)) (length (layout c)) (omega arith)) at e
+
+-- and is refused with 12 where anything follows it
+pub refused-with : (c : Component) (more : List ℕ) → Rules c → 0 < length more → component (layout c ++ more) ≡ refuse 12 (length (layout c))
+refused-with c more r h =
+    let e = laid-then (c .kind) (c .line) (c .ratio) (c .speeds) (c .torques) more r in
+    let l : length (layout c) < length (layout c ++ more) = omega (arith, length-append (layout c) more) in
+    rw (lt-leb _ _ l) at e
 
 -- a fault is refused with its number and place
 pub refused-only-then : RefusedOnlyThen
-refused-only-then bytes t b f = fault-refused bytes t f
+refused-only-then bytes t f = fault-refused bytes t f
 
 -- ---- no third case: bytes are wrong, or laid out from numbers that keep every rule
 module _ (bytes : List ℕ) where

@@ -1,16 +1,17 @@
 -- Component data is accepted exactly when no refusal applies.
-use Prim.Native.Nat.{ℕ, _+_, _-_, _*_, _≤_, _<_}
+use Prim.Native.Nat.{ℕ, _+_, _*_, _<_}
 use mathlib.Core.Path.{_≡_}
 use mathlib.Core.List.{List, [], _∷_}
-use lib.ListN.{length, getD}
-use Rattle.refusal.specs.Outcome.{Told, accepted, refused}
+use lib.ListN.{length}
+use Rattle.refusal.specs.Outcome.{refusal, Told, accepted, refused}
 use Rattle.grid.specs.Axis.{_to_}
+use Rattle.grid.specs.Rules.{InRange, AxisRules, FirstStep}
 use Rattle.component.specs.Field.{exactly, numbers}
 use Rattle.component.specs.Component.{Component, component}
 use Rattle.component.specs.declared.sensor.Sensor.{Sensor}
 use Rattle.layout.specs.Layout.{twoBytes, numberBytes, sensorNumbers, layout}
-use Rattle.layout.specs.Rules.{AreBytes, InRange, AxisRules, SensorRules, Rules}
-use Rattle.layout.specs.Faults.{refusal, Stands, FieldFault, NumberFault, AxisFault, TorqueFault, SensorFault, NoFault}
+use Rattle.layout.specs.Rules.{AreBytes, SensorRules, Rules}
+use Rattle.layout.specs.Faults.{Stands, FieldFault, NumberFault, AxisFault, TorqueFault, SensorFault, NoFault}
 
 -- ---- fields that stand in their places and keep their rules
 
@@ -24,13 +25,13 @@ pub record AxleStands (bytes : List ℕ) (kind line ratio : ℕ) : Type 0 where
 
 pub record SpeedsStand (bytes : List ℕ) (speeds : List ℕ) : Type 0 where
   pub there : Stands bytes 13 4 (numbers 2 32) (numberBytes speeds)
-  pub rules : AxisRules (1 to 3000) 32 speeds
+  pub rules : AxisRules (1 to 3000) 32 speeds (length speeds)
 
 -- after m speeds
 pub record TorquesStand (bytes : List ℕ) (m : ℕ) (torques : List ℕ) : Type 0 where
   pub there : Stands bytes (16 + 2 * m) 5 (numbers 2 64) (numberBytes torques)
-  pub rules : AxisRules (0 to 50000) 64 torques
-  pub step : getD torques 0 0 ≤ getD torques 1 0 - getD torques 0 0
+  pub rules : AxisRules (0 to 50000) 64 torques (length torques)
+  pub step : FirstStep torques
 
 pub record SensorStands (bytes : List ℕ) (at tag : ℕ) (sensor : Sensor) : Type 0 where
   pub there : Stands bytes at tag (exactly 18) (numberBytes (sensorNumbers sensor))
@@ -90,4 +91,4 @@ abbrev pub Refused : Type 0
 Refused = (bytes : List ℕ) (t : Told) → AreBytes bytes → component bytes ≡ refused t → Fault bytes t
 
 abbrev pub RefusedOnlyThen : Type 0
-RefusedOnlyThen = (bytes : List ℕ) (t : Told) → AreBytes bytes → Fault bytes t → component bytes ≡ refused t
+RefusedOnlyThen = (bytes : List ℕ) (t : Told) → Fault bytes t → component bytes ≡ refused t

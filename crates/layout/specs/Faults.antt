@@ -5,17 +5,13 @@ use mathlib.Core.Bool.{Bool, true, false}
 use mathlib.Core.List.{List}
 use mathlib.Core.Logic.{_⊎_}
 use lib.ListN.{length, getD}
-use Rattle.refusal.specs.Outcome.{Told}
+use Rattle.refusal.specs.Outcome.{Told, refusal}
 use Rattle.grid.specs.Axis.{_to_}
+use Rattle.grid.specs.Rules.{InRange, AxisRules}
 use Rattle.grid.specs.declared.Range.{Range}
 use Rattle.component.specs.Bytes.{numberOf, pairs, between}
 use Rattle.component.specs.Sensor.{sensorRanges}
 use Rattle.layout.specs.Layout.{fieldBytes}
-use Rattle.layout.specs.Rules.{InRange, AxisRules}
-
--- the refusal of this number and place
-abbrev pub refusal : ℕ → ℕ → Told
-refusal number place = record { number = number; place = place }
 
 -- ---- one field
 
@@ -67,7 +63,7 @@ pub record AxisFault (range : Range) (body : List ℕ) (place : ℕ) (t : Told) 
 -- the torque axis, also 6: "first torque above the first step", "first torque's offset"
 pub data TorqueFault (body : List ℕ) (place : ℕ) (t : Told) : Type 0 where
   numbers-wrong : AxisFault (0 to 50000) body place t → TorqueFault body place t
-  step-wrong : AxisRules (0 to 50000) 64 (pairs body) → getD (pairs body) 1 0 - getD (pairs body) 0 0 < getD (pairs body) 0 0 → t ≡ refusal 6 place → TorqueFault body place t
+  step-wrong : AxisRules (0 to 50000) 64 (pairs body) (length (pairs body)) → getD (pairs body) 1 0 - getD (pairs body) 0 0 < getD (pairs body) 0 0 → t ≡ refusal 6 place → TorqueFault body place t
 
 -- the first wrong number of a sensor
 pub record SensorFault (body : List ℕ) (place : ℕ) (t : Told) : Type 0 where

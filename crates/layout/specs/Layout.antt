@@ -2,7 +2,7 @@
 use Prim.Native.Nat.{ℕ, _/_, _%_}
 use mathlib.Core.List.{List, [], _∷_, _++_}
 use lib.ListN.{length}
-use Rattle.component.specs.Component.{Component, Kind, standard, measured}
+use Rattle.component.specs.Component.{Component, Kind, standard, measured, kindNumber}
 use Rattle.component.specs.declared.sensor.Sensor.{Sensor}
 
 -- a number as two bytes, "most significant byte first"
@@ -31,11 +31,6 @@ sensorNumbers s =
     ∷ s .difference
     ∷ s .span
     ∷ []
-
--- "kind, 1 standard or 2 measured"
-abbrev pub kindNumber : Kind → ℕ
-kindNumber standard = 1
-kindNumber (measured input output rows) = 2
 
 -- tags 6 to 8, "measured only"
 unfoldable pub measuredBytes : Kind → List ℕ

@@ -1,27 +1,16 @@
 -- Document 01, "Component data": the ranges, orders and counts that the numbers keep, said of each number by its index.
-use Prim.Native.Nat.{ℕ, _+_, _-_, _*_, _≤_, _<_}
+use Prim.Native.Nat.{ℕ, _+_, _*_, _<_}
 use mathlib.Core.Path.{_≡_}
 use mathlib.Core.List.{List}
 use lib.ListN.{length, getD}
 use Rattle.grid.specs.Axis.{_to_}
-use Rattle.grid.specs.declared.Range.{Range}
+use Rattle.grid.specs.Rules.{InRange, AxisRules, FirstStep}
 use Rattle.component.specs.Component.{Component, Kind, standard, measured}
 use Rattle.component.specs.declared.sensor.Sensor.{Sensor}
 
 -- every number is a byte
 abbrev pub AreBytes : List ℕ → Type 0
 AreBytes bytes = (i : ℕ) → i < length bytes → getD bytes i 0 < 256
-
--- both ends are in the range
-abbrev pub InRange : Range → ℕ → Type 0
-InRange range n = (range .lowest ≤ n) × (n ≤ range .highest)
-
--- tags 4 and 5: the numbers of an axis, each in its range, "strictly rising"
-pub record AxisRules (range : Range) (most : ℕ) (ns : List ℕ) : Type 0 where
-  pub at-least : 2 ≤ length ns
-  pub at-most : length ns ≤ most
-  pub ranges : (i : ℕ) → i < length ns → InRange range (getD ns i 0)
-  pub rising : (i : ℕ) → i + 1 < length ns → getD ns i 0 < getD ns (i + 1) 0
 
 -- tags 6 and 7: N, w, z, c, k, s, p, d and R
 pub record SensorRules (s : Sensor) : Type 0 where
@@ -46,8 +35,7 @@ KindRules speeds torques (measured input output rows) =
 pub record Rules (c : Component) : Type 0 where
   pub line : InRange (1 to 5) (c .line)
   pub ratio : InRange (1000 to 20000) (c .ratio)
-  pub speeds : AxisRules (1 to 3000) 32 (c .speeds)
-  pub torques : AxisRules (0 to 50000) 64 (c .torques)
-  -- "The first torque is at most the second less the first."
-  pub step : getD (c .torques) 0 0 ≤ getD (c .torques) 1 0 - getD (c .torques) 0 0
+  pub speeds : AxisRules (1 to 3000) 32 (c .speeds) (length (c .speeds))
+  pub torques : AxisRules (0 to 50000) 64 (c .torques) (length (c .torques))
+  pub step : FirstStep (c .torques)
   pub kind : KindRules (length (c .speeds)) (length (c .torques)) (c .kind)

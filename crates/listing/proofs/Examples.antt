@@ -31,8 +31,7 @@ entries = 13000 ∷ 15041 ∷ 13000 ∷ 15041 ∷ []
 
 examples : List Example
 examples =
-    text (listing grid entries) (bytes "speed,torque,loss\n100,0,130.00\n100,1000,150.41\n200,0,130.00\n200,1000,150.41\n")
-    ∷ answer (listed grid entries 76) (accepted 76)
+    answer (listed grid entries 76) (accepted 76)
     ∷ answer (listed grid entries 75) (refuse 11 76)
     ∷ answer (listed grid (13000 ∷ 15041 ∷ 13000 ∷ []) 76) (refuse 22 0)
     ∷ text (hundredths 0) (bytes "0.00")
@@ -45,4 +44,4 @@ examples =
 
 hold : Hold examples
 unfolding Hold examples grid entries digitCountBy digitCount decimal hundredths header line row rows listing refusalLine fitted listed validMap validGrid validEntries validSpeeds validTorques validNumbers firstStep within rises every joined
-hold = (refl, (refl, (refl, (refl, (refl, (refl, (refl, (refl, (refl, (refl, tt))))))))))
+hold = (refl, (refl, (refl, (refl, (refl, (refl, (refl, (refl, (refl, tt)))))))))

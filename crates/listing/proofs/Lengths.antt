@@ -59,11 +59,11 @@ listing-most grid entries e =
     let m = grid .speeds .count in
     let n = grid .torques .count in
     let each : (i : ℕ) → i < m → (j : ℕ) → j < n → length (lineAt (getD speeds i 0) torques entries (i * n) j) ≤ 21 =
-    λ i h j l. line-most _ _ _ (map .speeds .high i h) (map .torques .high j l) (map .small (i * n + j) (omega (arith, row-within i m n h))) in
+    λ i h j l. line-most _ _ _ (map .axes .speeds .ranges i h .1) (map .axes .torques .ranges j l .1) (map .small (i * n + j) (omega (arith, row-within i m n h))) in
     let all : length (joined (rowAt speeds torques n entries) m) ≤ m * (n * 21) =
     joined-most (rowAt speeds torques n entries) (n * 21) m (λ i h. joined-most (lineAt (getD speeds i 0) torques entries (i * n)) 21 n (each i h)) in
-    let widest : n * 21 ≤ 1344 = omega (arith, map .torques .fits) in
-    omega (arith, length-listing grid entries, all, mul-le-mul (map .speeds .fits) widest)
+    let widest : n * 21 ≤ 1344 = omega (arith, map .axes .torques .at-most) in
+    omega (arith, length-listing grid entries, all, mul-le-mul (map .axes .speeds .at-most) widest)
 
 -- the line of a refusal takes at most 40 bytes
 pub refusal-line-most : (t : Told) → t .number < 100 → t .place < 2 ^ 64 → length (refusalLine t) ≤ 40

@@ -15,7 +15,7 @@ use lib.Seq.{length-take-le, getD-take}
 use Rattle.grid.specs.Map.{speedsOf, torquesOf, validGrid, validMap}
 use Rattle.grid.specs.declared.Grid.{Grid}
 use Rattle.grid.specs.declared.Range.{Range}
-use Rattle.grid.proofs.Axis.{Axis}
+use Rattle.grid.specs.Rules.{AxisRules}
 use Rattle.grid.proofs.Map as map
 use Rattle.lookup.specs.Cell.{Point, Within, Has}
 use Rattle.lookup.specs.Loss.{lastUpTo, neighbour, cellOf}
@@ -39,23 +39,23 @@ past-end [] k l = refl
 past-end (n ∷ ns) zero l = absurd (omega arith)
 past-end (n ∷ ns) (suc k) l = past-end ns k (omega arith)
 
-module _ (most : ℕ) (range : Range) (ns : List ℕ) (count : ℕ) (f : Axis most range ns count) where
+module _ (range : Range) (most : ℕ) (ns : List ℕ) (count : ℕ) (f : AxisRules range most ns count) where
   -- the numbers are all there, since past the end there is nothing that rises
   all-there : count ≤ length ns
   all-there =
       by-contra count (length ns)
-      (λ l. omega (arith, f .two, f .rises (count - 2) (omega (arith, f .two)), past-end ns (count - 2 + 1) (omega (arith, f .two))))
+      (λ l. omega (arith, f .at-least, f .rising (count - 2) (omega (arith, f .at-least)), past-end ns (count - 2 + 1) (omega (arith, f .at-least))))
 
   pub count-taken : length (take count ns) ≡ count
   count-taken = length-take-le count ns all-there
 
   pub rising : Rising (take count ns)
   rising = record {
-    two = omega (arith, f .two, count-taken);
+    two = omega (arith, f .at-least, count-taken);
     rises = λ k l.
         let h : k + 1 < count = omega (arith, count-taken) in
         let g : k < count = omega arith in
-        rw (getD-take count ns k 0 g, getD-take count ns (k + 1) 0 h) (f .rises k h);
+        rw (getD-take count ns k 0 g, getD-take count ns (k + 1) 0 h) (f .rising k h);
   }
 
 pub grid-axes : (grid : Grid) → validGrid grid ≡ true → Axes (speedsOf (grid .speeds)) (torquesOf (grid .torques))
@@ -63,8 +63,8 @@ grid-axes grid e =
     let f = map.grid-facts grid e in
     let n = grid .torques .count in
     let ns = grid .torques .numbers in
-    let h : 0 < n = omega (arith, f .torques .two) in
-    let g : 1 < n = omega (arith, f .torques .two) in
+    let h : 0 < n = omega (arith, f .torques .at-least) in
+    let g : 1 < n = omega (arith, f .torques .at-least) in
     record {
       speeds = rising _ _ _ _ (f .speeds);
       torques = rising _ _ _ _ (f .torques);
@@ -73,8 +73,7 @@ grid-axes grid e =
 
 pub map-axes : (grid : Grid) (entries : List ℕ) → validMap grid entries ≡ true → Axes (speedsOf (grid .speeds)) (torquesOf (grid .torques))
 map-axes grid entries e =
-    let f = map.map-facts grid entries e in
-    grid-axes grid (map.grid-of grid (record { speeds = f .speeds; torques = f .torques; step = f .step }))
+    grid-axes grid (map.grid-of grid (map.map-facts grid entries e .axes))
 
 -- ---- the order of the numbers
 

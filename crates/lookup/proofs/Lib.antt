@@ -8,4 +8,5 @@ pub mod Lines
 pub mod Queries
 pub mod Parts
 pub mod Nearness
+pub mod Decided
 pub mod Examples

@@ -12,7 +12,8 @@ use lib.Seq.{getD-take}
 use Rattle.refusal.specs.Outcome.{refuse}
 use Rattle.grid.specs.Map.{validMap}
 use Rattle.grid.specs.Parts.{gridOf}
-use Rattle.grid.proofs.Map.{Map, map-facts}
+use Rattle.grid.specs.Rules.{MapRules, GridRules}
+use Rattle.grid.proofs.Map.{map-facts}
 use Rattle.lookup.specs.Cell.{Point, Within, Cell}
 use Rattle.lookup.specs.Loss.{neighbour, cellOf, ceiling, lossAt, lossAnswer}
 use Rattle.lookup.specs.Interpolation.{cellNumbers, interpolation, CellThere, CellBounds}
@@ -29,8 +30,11 @@ pub row : (i j m : ℕ) → (i + 1) * m + j ≡ i * m + j + m
 row i j m = omega arith
 
 module _ (s : List ℕ) (n : ℕ) (t : List ℕ) (m : ℕ) (entries : List ℕ) (valid : validMap (gridOf s n t m) entries ≡ true) where
-  facts : Map (gridOf s n t m) entries
-  facts = map-facts (gridOf s n t m) entries valid
+  map : MapRules (gridOf s n t m) entries
+  map = map-facts (gridOf s n t m) entries valid
+
+  facts : GridRules (gridOf s n t m)
+  facts = map .axes
 
   speeds-taken : length (take n s) ≡ n
   speeds-taken = count-taken _ _ s n (facts .speeds)
@@ -43,13 +47,13 @@ module _ (s : List ℕ) (n : ℕ) (t : List ℕ) (m : ℕ) (entries : List ℕ) 
 
   -- the ends of both axes
   first-speed : getD (take n s) 0 0 ≡ getD s 0 0
-  first-speed = let h : 0 < n = omega (arith, facts .speeds .two) in getD-take n s 0 0 h
+  first-speed = let h : 0 < n = omega (arith, facts .speeds .at-least) in getD-take n s 0 0 h
 
   last-speed : getD (take n s) (length (take n s) - 1) 0 ≡ getD s (n - 1) 0
-  last-speed = let h : n - 1 < n = omega (arith, facts .speeds .two) in rw speeds-taken (getD-take n s (n - 1) 0 h)
+  last-speed = let h : n - 1 < n = omega (arith, facts .speeds .at-least) in rw speeds-taken (getD-take n s (n - 1) 0 h)
 
   last-torque : getD (take m t) (length (take m t) - 1) 0 ≡ getD t (m - 1) 0
-  last-torque = let h : m - 1 < m = omega (arith, facts .torques .two) in rw torques-taken (getD-take m t (m - 1) 0 h)
+  last-torque = let h : m - 1 < m = omega (arith, facts .torques .at-least) in rw torques-taken (getD-take m t (m - 1) 0 h)
 
   module _ (p : Point) (x : ℕ) (first : x ≡ getD s 0 0) where
     pub speed-below : p .speed < 10 * x → lossAnswer (gridOf s n t m) entries p ≡ refuse 20 0
@@ -84,24 +88,24 @@ module _ (s : List ℕ) (n : ℕ) (t : List ℕ) (m : ℕ) (entries : List ℕ) 
 
     pub cell-there : CellThere m entries (record { speed = i; torque = j })
     cell-there = record {
-      speed = omega (arith, speed-in, facts .speeds .fits);
-      torque = omega (arith, torque-in, facts .torques .fits);
-      row = facts .torques .fits;
-      last = omega (arith, in-grid i j n m speed-in torque-in, facts .enough);
+      speed = omega (arith, speed-in, facts .speeds .at-most);
+      torque = omega (arith, torque-in, facts .torques .at-most);
+      row = facts .torques .at-most;
+      last = omega (arith, in-grid i j n m speed-in torque-in, map .enough);
     }
 
     small-at : (k : ℕ) → k ≤ i * m + j + m + 1 → getD entries k 0 ≤ 10000000
-    small-at k l = facts .small k (omega (arith, in-grid i j n m speed-in torque-in))
+    small-at k l = map .small k (omega (arith, in-grid i j n m speed-in torque-in))
 
     pub cell-bounds : CellBounds (cellNumbers s t m entries (record { speed = i; torque = j })) p
     unfolding cellNumbers
     cell-bounds = record {
-      wide = omega (arith, facts .speeds .rises i speed-in);
-      tall = omega (arith, facts .torques .rises j torque-in);
-      fastest = omega (arith, facts .speeds .high (i + 1) speed-in);
-      strongest = omega (arith, facts .torques .high (j + 1) torque-in);
-      speed = omega (arith, w .upto, last-speed, facts .speeds .high (n - 1) (omega (arith, facts .speeds .two)));
-      torque = omega (arith, w .top, last-torque, facts .torques .high (m - 1) (omega (arith, facts .torques .two)));
+      wide = omega (arith, facts .speeds .rising i speed-in);
+      tall = omega (arith, facts .torques .rising j torque-in);
+      fastest = omega (arith, facts .speeds .ranges (i + 1) speed-in .1);
+      strongest = omega (arith, facts .torques .ranges (j + 1) torque-in .1);
+      speed = omega (arith, w .upto, last-speed, facts .speeds .ranges (n - 1) (omega (arith, facts .speeds .at-least)) .1);
+      torque = omega (arith, w .top, last-torque, facts .torques .ranges (m - 1) (omega (arith, facts .torques .at-least)) .1);
       e00 = small-at _ (omega arith);
       e01 = small-at _ (omega arith);
       e10 = small-at _ (omega (arith, row i j m));

@@ -12,7 +12,7 @@ use Rattle.arith.specs.Fraction.{whole, RoundsUp}
 use Rattle.arith.proofs.Fractions.{rounds-up-same}
 use Rattle.refusal.specs.Outcome.{accepted, refuse, _>>=_, require}
 use Rattle.refusal.proofs.Steps.{test-accepted, same-value}
-use Rattle.grid.proofs.Every.{and-fst, and-snd}
+use Rattle.grid.proofs.Every.{and-false, and-fst, and-snd}
 use Rattle.grid.specs.Map.{speedsOf, torquesOf, validMap}
 use Rattle.grid.specs.declared.Grid.{Grid}
 use Rattle.lookup.specs.Cell.{Point, Within, Cell, Has, sum, corners, entryAt}
@@ -29,10 +29,6 @@ loss-rounds speeds torques entries axes p w k h =
     let e = same-sum speeds torques axes p (λ i j. whole (entryAt (length torques) entries i j)) (cellOf speeds torques p) k (cell-has speeds torques axes p w) h in
     rounds-up-same _ _ _ (e .0) (e .1) (ceiling-rounds _)
 
-and-false : (a b : Bool) → b ≡ false → (a && b) ≡ false
-and-false true b e = e
-and-false false b e = refl
-
 module _ (grid : Grid) (entries : List ℕ) (p : Point) where
   -- "what is lent as a map breaks a rule"
   pub map-refused : validMap grid entries ≡ false → lossAnswer grid entries p ≡ refuse 22 0
@@ -48,7 +44,7 @@ module _ (grid : Grid) (entries : List ℕ) (p : Point) where
         let first = leb (10 * getD (speedsOf (grid .speeds)) 0 0) (p .speed) in
         let last = 10 * getD (speedsOf (grid .speeds)) (length (speedsOf (grid .speeds)) - 1) 0 in
         let e : leb (p .speed) last ≡ false = lt-leb (p .speed) last l in
-        rw (valid, and-false first (leb (p .speed) last) e)
+        rw (valid, e, and-false first)
 
     -- "query torque above the last torque"
     pub torque-refused : 10 * getD (speedsOf (grid .speeds)) 0 0 ≤ p .speed → p .speed ≤ 10 * getD (speedsOf (grid .speeds)) (length (speedsOf (grid .speeds)) - 1) 0 → 100 * getD (torquesOf (grid .torques)) (length (torquesOf (grid .torques)) - 1) 0 < p .torque → lossAnswer grid entries p ≡ refuse 21 0

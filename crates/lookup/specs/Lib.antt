@@ -3,3 +3,4 @@ pub mod Loss
 pub mod Nearest
 pub mod Answers
 pub mod Interpolation
+pub mod Acceptance

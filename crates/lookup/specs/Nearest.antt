@@ -29,11 +29,15 @@ pub record GridPoint : Type 0 where
   pub speed : ℕ
   pub torque : ℕ
 
+-- the nearest point of a grid
+abbrev pub nearestPoint : Grid → Point → GridPoint
+nearestPoint grid p = record {
+  speed = nearestNumber (speedsOf (grid .speeds)) 10 (p .speed);
+  torque = nearestNumber (torquesOf (grid .torques)) 100 (p .torque);
+}
+
 -- "The nearest point tests 22 for axes alone."
 unfoldable pub nearestAnswer : Grid → Point → Outcome GridPoint
 nearestAnswer grid p = do
   _ ← require (validGrid grid) 22 0
-  accepted (record {
-    speed = nearestNumber (speedsOf (grid .speeds)) 10 (p .speed);
-    torque = nearestNumber (torquesOf (grid .torques)) 100 (p .torque);
-  })
+  accepted (nearestPoint grid p)

@@ -1,20 +1,20 @@
 -- Exact entries of both kinds are numbers, and entries are never below them and less than 0.01 Nm (kind 1) or 0.02 Nm (kind 2) above. Assumes nothing.
-use Prim.Native.Nat.{ℕ, _+_, _*_, _-_, _≤_}
+use Prim.Native.Nat.{ℕ, zero, suc, _+_, _*_, _-_, _≤_, _<_}
 use mathlib.Core.Path.{_≡_, refl, ap, sym, _∙_}
 use mathlib.Core.Bool.{false}
 use mathlib.Core.List.{List, [], _∷_, map}
 use mathlib.Core.Logic.{inl, ⊎-elim}
 use native.Mathlib.Omega.{arith}
-use native.Mathlib.Nat.{mul-le-mul-right}
+use native.Mathlib.Nat.{mul-le-mul-right, mul-pos}
 use borrow.Author.Tests.{ltb-false}
 use lib.ListN.{length}
 use Rattle.arith.specs.Quotient.{quotientUp}
-use Rattle.arith.specs.Fraction.{Fraction, whole, _⊕_, _≼_, _≺_}
-use Rattle.arith.proofs.Fractions.{Is, is-itself, is-whole, is-over, is-sum, is-plus-whole, below, below-of, at-most-itself, not-both}
+use Rattle.arith.specs.Fraction.{Fraction, _less_over_, _over_, whole, _⊕_, _≼_, _≺_}
+use Rattle.arith.proofs.Fractions.{Is, is-itself, is-less, is-whole, is-over, is-expanded, is-sum, is-plus-whole, at-most, below, below-of, at-most-itself, not-both}
 use Rattle.loss.specs.Rounding.{roundUp, partAbove}
 use Rattle.loss.specs.Standard.{lineOf, standardLoss, standardEntry}
 use Rattle.loss.specs.Measured.{Reading, readingUncertainty, lossUncertainty, measuredLoss, lossIsUnderZero, allowance, fromGrains, entryOf, Output, Row, output, outputReading, readings, rowUncertainty, measuredEntry, AllInRange, RowInRange}
-use Rattle.loss.specs.Exact.{Cut, IsNumber, EntryAccurate, Exact, cut, exactStandard, rootSquare, exactMeasured}
+use Rattle.loss.specs.Exact.{Cut, IsNumber, Near, EntryAccurate, Exact, cut, exactStandard, rootSquare, exactMeasured}
 use Rattle.loss.proofs.Lines.{line-of-usable}
 use Rattle.loss.proofs.Rounding.{not-negative, not-negative-of, is-part-above, is-zero, roundUp-natural}
 use Rattle.loss.proofs.Values.{standardNumerator, standard-loss-is, loss-is, under-zero-by, allowance-is}
@@ -106,11 +106,43 @@ wider {excess} {more} {e} l h = record { never-below = h .never-below; near = λ
         below (is-whole e) (is-plus-whole more (is-itself q))
         (omega (arith, below-of (is-whole e) (is-plus-whole excess (is-itself q)) b, mul-le-mul-right (q .den) l))
 
--- ---- there are fractions on both sides
+-- ---- there are fractions on both sides, as near to each other as may be asked
 
-module _ {excess e : ℕ} {x : Cut} (number : IsNumber x) (accurate : EntryAccurate excess x e) (q : Fraction) where
-  pub above-entry : whole e ≺ q → x .AtOrAbove q
-  above-entry h = ⊎-elim (λ a. absurd (not-both _ _ h (accurate .never-below q a))) (λ a. a) (number .side q)
+module _ {excess e : ℕ} {x : Cut} (number : IsNumber x) (accurate : EntryAccurate excess x e) where
+  above-entry : (q : Fraction) → whole e ≺ q → x .AtOrAbove q
+  above-entry q h = ⊎-elim (λ a. absurd (not-both _ _ h (accurate .never-below q a))) (λ a. a) (number .side q)
 
-  pub below-entry : q ⊕ whole excess ≼ whole e → x .AtOrBelow q
-  below-entry h = ⊎-elim (λ a. a) (λ a. absurd (not-both _ _ (accurate .near q a) h)) (number .side q)
+  below-entry : (q : Fraction) → q ⊕ whole excess ≼ whole e → x .AtOrBelow q
+  below-entry q h = ⊎-elim (λ a. a) (λ a. absurd (not-both _ _ (accurate .near q a) h)) (number .side q)
+
+  module _ (n : ℕ) (pos : 0 < n) where
+    -- k steps of 1 / (n + 1), from the excess below 0 upwards
+    step : ℕ → Fraction
+    step k = k less excess * (n + 1) over (n + 1)
+
+    step-is : (k : ℕ) → Is (step k) k (excess * (n + 1)) (n + 1)
+    unfolding step
+    step-is k = is-less k (excess * (n + 1)) (n + 1) (omega arith)
+
+    one-step : (k : ℕ) → step (k + 1) ≺ step k ⊕ (1 over n)
+    one-step k =
+        below (step-is (k + 1))
+        (is-sum (is-expanded n ((n + 1) * n) (mul-pos (omega arith) pos) refl (step-is k)) (is-expanded (n + 1) ((n + 1) * n) (mul-pos (omega arith) pos) (omega arith) (is-over 1 n pos)))
+        (omega (arith, mul-pos pos pos))
+
+    -- one of the steps is the last at or below
+    last-below : (k count : ℕ) → x .AtOrBelow (step k) → x .AtOrAbove (step (k + count + 1)) → Near x n
+    last-below k zero b a =
+        let z : k + 0 + 1 ≡ k + 1 = omega arith in
+        record { below = step k; above = step (k + 1); at-or-below = b; at-or-above = rw z at a; near = one-step k }
+    last-below k (suc count) b a =
+        let s : k + suc count + 1 ≡ k + 1 + count + 1 = omega arith in
+        ⊎-elim (λ h. last-below (k + 1) count h (rw s at a))
+        (λ h. record { below = step k; above = step (k + 1); at-or-below = b; at-or-above = h; near = one-step k })
+        (number .side (step (k + 1)))
+
+    pub fractions-near : Near x n
+    fractions-near =
+        last-below (e * (n + 1)) (2 * excess * (n + 1))
+        (below-entry _ (at-most (is-plus-whole excess (step-is (e * (n + 1)))) (is-whole e) (omega arith)))
+        (above-entry _ (below (is-whole e) (step-is (e * (n + 1) + 2 * excess * (n + 1) + 1)) (omega arith)))

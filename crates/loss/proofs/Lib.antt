@@ -9,4 +9,4 @@ pub mod Cuts
 pub mod Accuracy
 pub mod Rows
 pub mod Ranges
-pub mod Examples
+pub mod ExactCases

@@ -89,5 +89,5 @@ next-square vs i h = rw (add-one, drop-cons vs i 0 h)
 pub no-square-left : (vs : List ℕ) (i : ℕ) → length vs ≤ i → sumOfSquares (drop i vs) ≡ 0
 no-square-left vs i h = rw (drop-of-length-le vs h)
 
-pub loss-uncertainty-at-most : (n : ℕ) → n ≤ 4294967296 * 4294967296 → rootUp n ≤ 4294967296
-loss-uncertainty-at-most n h = rootUp-law n .least 4294967296 h
+pub root-at-most : (n most : ℕ) → n ≤ most * most → rootUp n ≤ most
+root-at-most n most h = rootUp-law n .least most h

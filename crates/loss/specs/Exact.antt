@@ -18,6 +18,14 @@ pub record IsNumber (cut : Cut) : Type 0 where
   pub side : (q : Fraction) → cut .AtOrBelow q ⊎ cut .AtOrAbove q
   pub ordered : (p q : Fraction) → cut .AtOrBelow p → cut .AtOrAbove q → p ≼ q
 
+-- fractions on its two sides, less than 1 / n apart
+pub record Near (cut : Cut) (n : ℕ) : Type 0 where
+  pub below : Fraction
+  pub above : Fraction
+  pub at-or-below : cut .AtOrBelow below
+  pub at-or-above : cut .AtOrAbove above
+  pub near : above ≺ below ⊕ (1 over n)
+
 -- "An entry itself is never below its exact value and less than .. above", the excess in hundredths of Nm
 pub record EntryAccurate (excess : ℕ) (cut : Cut) (e : ℕ) : Type 0 where
   pub never-below : (q : Fraction) → cut .AtOrBelow q → q ≼ whole e

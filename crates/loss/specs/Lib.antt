@@ -3,3 +3,4 @@ pub mod Rounding
 pub mod Standard
 pub mod Measured
 pub mod Exact
+pub mod ExactCases

@@ -98,7 +98,7 @@ pub struct Steps {
     pub zero: u64,
     pub calibration: u64,
     pub parasitic: u64,
-    pub uncertainty: u64,
+    pub uncertainty: u32,
 }
 
 // n / d rounded up, where the sum fits.
@@ -172,16 +172,22 @@ pub fn sensor_steps(sensor: Sensor, fixed: FixedParts, torque: u32) -> Steps
         zero: b,
         calibration: g,
         parasitic: h,
-        uncertainty: u,
+        uncertainty: u as u32,
     }
 }
 
-// A sensor's uncertainty times a factor in thousandths, rounded up to a grain.
-pub fn scaled_uncertainty(factor: u16, uncertainty: u64) -> u64
-    requires { ⌜ (factor ≤ 20000) × (uncertainty ≤ 43000000) ⌝ }
-    ensures { λ r. ⌜ (r ≡ scaledUncertainty factor uncertainty) × (r ≤ 860000000) ⌝ }
+// A torque or an uncertainty times a ratio in thousandths.
+fn at_ratio(n: u32, ratio: u16) -> u64
+    ensures { λ r. ⌜ (r ≡ n * ratio) × (r < 2 ^ 48) ⌝ }
 {
-    rounded_up(uncertainty * (factor as u64), 1000)
+    (n as u64) * (ratio as u64)
+}
+
+// A sensor's uncertainty times a factor in thousandths, rounded up to a grain.
+pub fn scaled_uncertainty(factor: u16, uncertainty: u32) -> u64
+    ensures { λ r. ⌜ r ≡ scaledUncertainty factor uncertainty ⌝ }
+{
+    rounded_up(at_ratio(uncertainty, factor), 1000)
 }
 
 // The loss uncertainty in grains: the least whole number whose square is at least the sum of the squares.
@@ -197,13 +203,6 @@ pub fn loss_uncertainty(parts: &[u64]) -> u64
         i += 1;
     }
     arith::root_up(sum)
-}
-
-// A torque in hundredths times the ratio in thousandths.
-fn at_ratio(torque: u32, ratio: u16) -> u64
-    ensures { λ r. ⌜ (r ≡ torque * ratio) × (r < 2 ^ 48) ⌝ }
-{
-    (torque as u64) * (ratio as u64)
 }
 
 // a - b, or 0 where b is larger.
@@ -244,11 +243,10 @@ pub fn allowance(ratio: u16, input: u32, output: u32) -> u64
 }
 
 // The entry of a row, from its loss uncertainty in grains: the measured loss plus the part of the uncertainty above the allowance, rounded up to a hundredth.
-pub fn measured_entry(ratio: u16, input: u32, output: u32, uncertainty: u64) -> u64
-    requires { ⌜ uncertainty ≤ 4294967296 ⌝ }
+pub fn measured_entry(ratio: u16, input: u32, output: u32, uncertainty: u32) -> u64
     ensures { λ r. ⌜ r ≡ entryOf ratio input output uncertainty ⌝ }
 {
     let allowed = allowance(ratio, input, output);
-    let gained = 20 * at_ratio(input, ratio) + part_above(200 * uncertainty, allowed);
+    let gained = 20 * at_ratio(input, ratio) + part_above(200 * (uncertainty as u64), allowed);
     rounded_up(part_above(gained, 20000 * (output as u64)), 20000)
 }

@@ -4,20 +4,22 @@ use mathlib.Core.Path.{_≡_, refl, sym, _∙_}
 use mathlib.Core.Bool.{Bool, true, false, not, _&&_}
 use mathlib.Core.Logic.{_⊎_, inl, inr, ⊎-elim}
 use native.Mathlib.Omega.{arith}
-use borrow.Author.Tests.{leb-true, leb-false, le-leb, not-true, not-false}
+use borrow.Author.Tests.{leb-true, leb-false, le-leb, lt-leb, not-true, not-false}
 use lib.Dec.{leb}
 use lib.ListN.{length}
-use Rattle.refusal.specs.Outcome.{Told, accepted, refused}
+use Rattle.refusal.specs.Outcome.{refusal, Told, accepted, refused, placed}
 use Rattle.refusal.proofs.Steps.{never, same-value, then-accepted, then-refused, test-accepted, test-refused, require-accepted, require-refused, placed-accepted, placed-refused}
-use Rattle.refusal.proofs.First.{first-all, first-of, first-found}
-use Rattle.grid.proofs.Every.{and-fst, and-snd}
+use Rattle.refusal.proofs.First.{first-all, first-of, first-refused, first-found}
+use Rattle.grid.proofs.Every.{and-false, and-fst, and-snd, and-not}
 use Rattle.component.specs.Component.{Component, Kind, standard, measured, component}
-use Rattle.layout.specs.Faults.{refusal}
-use Rattle.layout.proofs.Theorems.{sound, complete, refused-means}
+use Rattle.layout.proofs.Theorems.{sound, complete, refused-means, refused-only-then}
 use Rattle.loss.specs.Measured.{lossIsUnderZero, measuredEntry}
 use Rattle.map.specs.Rows.{Torques, Bench, rowOf, nearAxis, rowCheck}
 use Rattle.map.specs.Build.{points, torqueCount, check, checkOfKind, speedCheck, rowsCheck, mapOf, build}
-use Rattle.map.specs.Acceptance.{RowRules, RowFault, input-above, output-above, off-axis, negative, too-large, PointRules, PointFault, AllRowsRight, FirstWrongRow, mapOfNumbers, Sound, Complete, in-data, too-few, in-row, Refused}
+use Rattle.map.specs.Answers.{rowOutcome}
+use Rattle.map.proofs.RowChecks as rows
+use Rattle.map.proofs.RowChecks.{check-refused}
+use Rattle.map.specs.Acceptance.{RowRules, RowFault, input-above, output-above, off-axis, negative, too-large, PointRules, PointFault, AllRowsRight, FirstWrongRow, mapOfNumbers, Sound, Complete, in-data, too-few, in-row, Refused, RefusedOnlyThen}
 
 -- ---- one row
 module _ (bench : Bench) (torque : ℕ) (t : Torques) where
@@ -39,13 +41,7 @@ module _ (bench : Bench) (torque : ℕ) (t : Torques) where
 
   not-near : nearAxis torque (t .output) ≡ false → (100 * torque + 500 < t .output) ⊎ (t .output + 500 < 100 * torque)
   unfolding nearAxis
-  not-near e = go (leb (t .output) (100 * torque + 500)) (leb (100 * torque) (t .output + 500)) refl refl e
-    where
-      go : (a b : Bool) → leb (t .output) (100 * torque + 500) ≡ a → leb (100 * torque) (t .output + 500) ≡ b → (a && b) ≡ false
-          → (100 * torque + 500 < t .output) ⊎ (t .output + 500 < 100 * torque)
-      go true true p q h = let z : _≡_ {A = ℕ} 0 1 = cc in absurd (omega arith)
-      go true false p q h = inr (leb-false _ _ q)
-      go false b p q h = inl (leb-false _ _ p)
+  not-near e = ⊎-elim (λ h. inl (leb-false _ _ h)) (λ h. inr (leb-false _ _ h)) (and-not (leb (t .output) (100 * torque + 500)) (leb (100 * torque) (t .output + 500)) e)
 
   pub row-right : rowCheck bench torque t ≡ accepted tt → RowRules bench torque t
   unfolding rowCheck inputTest outputTest lossTest
@@ -70,7 +66,7 @@ module _ (bench : Bench) (torque : ℕ) (t : Torques) where
   row-accepted r = rw (le-leb _ _ (r .input), le-leb _ _ (r .output), le-leb _ _ (r .not-over), le-leb _ _ (r .not-under), r .loss, le-leb _ _ (r .small))
 
   -- the places count from the row's first byte
-  pub row-wrong : (place : ℕ) (told u : Told) → rowCheck bench torque t ≡ refused u → told ≡ record { number = u .number; place = place + u .place } → RowFault bench torque t place told
+  pub row-wrong : (place : ℕ) (told u : Told) → rowCheck bench torque t ≡ refused u → told ≡ refusal (u .number) (place + u .place) → RowFault bench torque t place told
   unfolding rowCheck inputTest outputTest lossTest
   row-wrong place told u e h =
       ⊎-elim
@@ -101,6 +97,26 @@ module _ (bench : Bench) (torque : ℕ) (t : Torques) where
       at-output : (number : ℕ) → u ≡ refusal number 4 → told ≡ refusal number (place + 4)
       at-output number q = h ∙ rw q
 
+  -- and back
+  not-near-of : (100 * torque + 500 < t .output) ⊎ (t .output + 500 < 100 * torque) → nearAxis torque (t .output) ≡ false
+  unfolding nearAxis
+  not-near-of (inl h) = rw (lt-leb _ _ h)
+  not-near-of (inr h) = rw (lt-leb _ _ h) (and-false (leb (t .output) (100 * torque + 500)))
+
+  near-of : t .output ≤ 100 * torque + 500 → 100 * torque ≤ t .output + 500 → nearAxis torque (t .output) ≡ true
+  unfolding nearAxis
+  near-of h k = rw (le-leb _ _ h, le-leb _ _ k)
+
+  pub row-refused : (place : ℕ) (told : Told) → RowFault bench torque t place told → placed (λ offset. place + offset) (rowCheck bench torque t) ≡ refused told
+  row-refused place told f = check-refused bench torque t place told (by-fault f)
+    where
+      by-fault : RowFault bench torque t place told → refused told ≡ rowOutcome bench torque t place
+      by-fault (input-above h e) = rw e (rows.input-above bench torque t place h)
+      by-fault (output-above i h e) = rw e (rows.output-above bench torque t place i h)
+      by-fault (off-axis i o h e) = rw e (rows.off-axis bench torque t place i o (not-near-of h))
+      by-fault (negative i o n m h e) = rw e (rows.negative bench torque t place i o (near-of n m) h)
+      by-fault (too-large i o n m l h e) = rw e (rows.too-large bench torque t place i o (near-of n m) l _ refl h)
+
 -- ---- the row of a point
 kind-right : (c : Component) (kind : Kind) (i j : ℕ) → checkOfKind c i j kind ≡ accepted tt → PointRules c i j kind
 unfolding checkOfKind
@@ -118,6 +134,11 @@ kind-wrong c standard i j told e = never told tt (sym e)
 kind-wrong c (measured input output rows) i j told e =
     let p = placed-refused _ _ told e in
     row-wrong _ _ _ _ told (p .0) (p .1) (p .2)
+
+kind-refused : (c : Component) (kind : Kind) (i j : ℕ) (told : Told) → PointFault c i j kind told → checkOfKind c i j kind ≡ refused told
+unfolding checkOfKind
+kind-refused c standard i j told f = absurd f
+kind-refused c (measured input output rows) i j told f = row-refused _ _ _ _ told f
 
 -- ---- all rows
 speed-right : (c : Component) (i : ℕ) → speedCheck c i ≡ accepted tt → (j : ℕ) → j < torqueCount c → PointRules c i j (c .kind)
@@ -146,6 +167,14 @@ rows-wrong c told e =
       earlier-torques = λ j h. kind-right c (c .kind) (s .at) j (w .passed j (omega arith) h);
       wrong = kind-wrong c (c .kind) (s .at) (w .at) told (w .here);
     }
+
+pub rows-refused : (c : Component) (told : Told) → FirstWrongRow c told → rowsCheck c ≡ refused told
+unfolding rowsCheck speedCheck check
+rows-refused c told w =
+    first-refused _ (length (c .speeds)) (w .speed) told (w .speed-in)
+    (λ i h. first-of _ (torqueCount c) (λ j l. kind-accepted c (c .kind) i j (w .earlier-speeds i j h l)))
+    (first-refused _ (torqueCount c) (w .torque) told (w .torque-in) (λ j h. kind-accepted c (c .kind) (w .speed) j (w .earlier-torques j h))
+    (kind-refused c (c .kind) (w .speed) (w .torque) told (w .wrong)))
 
 -- ---- the build
 pub build-sound : Sound
@@ -181,3 +210,13 @@ build-refused bytes lent told areBytes e =
     (then-refused (rowsCheck c) _ told (b .1)))
     (test-refused (leb (points c) lent) 11 (points c) _ told (h .2)))
     (then-refused (component bytes) _ told e)
+
+pub build-refused-only-then : RefusedOnlyThen
+unfolding build mapOf
+build-refused-only-then bytes lent told (in-data f) = rw (refused-only-then bytes told f)
+build-refused-only-then bytes lent told (too-few c rules laid few e) =
+    let read : component bytes ≡ accepted c = rw laid at (complete c rules) in
+    rw (e, read, lt-leb _ _ few)
+build-refused-only-then bytes lent told (in-row c rules laid room w) =
+    let read : component bytes ≡ accepted c = rw laid at (complete c rules) in
+    rw (read, le-leb _ _ room, rows-refused c told w)

@@ -53,6 +53,13 @@ module _ (bench : Bench) (torque : ℕ) (t : Torques) where
             unfolding rowCheck rowOutcome
             entry-given h = rw (le-leb _ _ input, le-leb _ _ output, near, loss, ← e, le-leb _ _ h)
 
+-- what is refused of a row is refused by its check
+pub check-refused : (bench : Bench) (torque : ℕ) (t : Torques) (place : ℕ) (told : Told) → refused told ≡ rowOutcome bench torque t place
+    → placed (λ offset. place + offset) (rowCheck bench torque t) ≡ refused told
+unfolding rowOutcome
+check-refused bench torque t place told e =
+    ⊎-elim (λ h. h) (λ h. never told _ (sym (h .2))) (then-refused (placed (λ offset. place + offset) (rowCheck bench torque t)) _ told (sym e))
+
 -- the entry of a row, from its loss uncertainty
 pub entry-is : (bench : Bench) (t : Torques) (u e : ℕ) → u ≡ rowUncertainty (rowOf bench t) → e ≡ entryOf (bench .ratio) (t .input) (t .output) u → e ≡ measuredEntry (rowOf bench t)
 unfolding measuredEntry
@@ -66,10 +73,8 @@ module _ (bench : Bench) (torques rows : List ℕ) (place j torque input output 
   row-is = let z : 8 * j + 4 + 4 ≡ 8 * j + 8 = omega arith in rw (b, c, z)
 
   pub part-refused : (t : Told) → refused t ≡ rowOutcome bench torque (torquesPair input output) (place + 8 * j) → partCheck bench torques rows place j ≡ refused t
-  unfolding rowOutcome partCheck
-  part-refused t e =
-      ⊎-elim (λ h. rw (← a, ← row-is) h) (λ h. never t _ (sym (h .2)))
-      (then-refused (placed (λ offset. place + 8 * j + offset) (rowCheck bench torque (torquesPair input output))) _ t (sym e))
+  unfolding partCheck
+  part-refused t e = rw (← a, ← row-is) (check-refused bench torque (torquesPair input output) (place + 8 * j) t e)
 
   module _ (entry : ℕ) (e : accepted entry ≡ rowOutcome bench torque (torquesPair input output) (place + 8 * j)) where
     pub part-accepted : partCheck bench torques rows place j ≡ accepted tt

@@ -3,7 +3,6 @@ use Prim.Native.Nat.{ℕ, _+_, _-_, _*_, _≤_, _<_}
 use mathlib.Core.Path.{_≡_, refl, sym, ap, _∙_}
 use mathlib.Core.List.{List, [], _∷_}
 use native.Mathlib.Omega.{arith}
-use native.Mathlib.Nat.{mul-le-mul}
 use lib.ListN.{length, getD, take, drop, length-take, length-drop}
 use lib.Seq.{getD-take, getD-drop}
 use Rattle.component.specs.Bytes.{numberOf, between}
@@ -28,7 +27,3 @@ four-at s at h =
     let z : at + 0 ≡ at = omega arith in
     let b0 : getD (between s at (at + 4)) 0 0 ≡ getD s at 0 = b 0 (omega arith) ∙ ap (λ (k : ℕ). getD s k 0) z in
     sym (four-bytes (between s at (at + 4)) l ∙ cc (b0, b 1 (omega arith), b 2 (omega arith), b 3 (omega arith)))
-
--- two scaled uncertainties, whose squares fit
-pub squares-fit : (v w : ℕ) → v ≤ 860000000 → w ≤ 860000000 → v * v + (w * w + 0) < 18446744073709551616
-squares-fit v w h k = omega (arith, mul-le-mul h h, mul-le-mul k k)

@@ -16,10 +16,10 @@ use Rattle.refusal.proofs.First.{first-all}
 use Rattle.grid.specs.Lists.{tabulate, joined}
 use Rattle.grid.specs.Map.{speedsOf, torquesOf, validMap}
 use Rattle.grid.specs.declared.Range.{Range}
-use Rattle.grid.proofs.Axis.{Axis}
+use Rattle.grid.specs.Rules.{AxisRules}
 use Rattle.grid.proofs.Map.{map-of}
 use Rattle.component.specs.Component.{Component, Kind, standard, measured, component}
-use Rattle.layout.specs.Rules.{AreBytes, AxisRules, Rules}
+use Rattle.layout.specs.Rules.{AreBytes, Rules}
 use Rattle.layout.proofs.Theorems.{sound}
 use Rattle.loss.specs.Measured.{lossIsUnderZero, measuredEntry}
 use Rattle.map.specs.Rows.{Bench, Torques, rowOf, nearAxis, rowCheck}
@@ -130,17 +130,16 @@ entry-small c s j r e h l =
     (first-all _ 0 (torqueCount c) (first-all _ 0 (length (c .speeds)) e s (omega arith) (omega arith)) j (omega arith) (omega arith))
 
 -- ---- the map that an accepted build leaves
-axis-kept : (range : Range) (most : ℕ) (ns numbers : List ℕ) (count : ℕ) → AxisRules range most ns → ns ≡ take count numbers → length (take count numbers) ≡ count
-    → Axis most range numbers count
+axis-kept : (range : Range) (most : ℕ) (ns numbers : List ℕ) (count : ℕ) → AxisRules range most ns (length ns) → ns ≡ take count numbers → length (take count numbers) ≡ count
+    → AxisRules range most numbers count
 axis-kept range most ns numbers count r e l =
     let n : length ns ≡ count = ap length e ∙ l in
     let at : (k : ℕ) → k < count → getD ns k 0 ≡ getD numbers k 0 = λ k h. ap (λ (x : List ℕ). getD x k 0) e ∙ getD-take count numbers k 0 h in
     record {
-      two = omega (arith, r .at-least);
-      fits = omega (arith, r .at-most);
-      low = λ k h. rw (at k h) at (r .ranges k (omega arith) .0);
-      high = λ k h. rw (at k h) at (r .ranges k (omega arith) .1);
-      rises = λ k h. rw (at k (omega arith), at (k + 1) h) at (r .rising k (omega arith));
+      at-least = omega (arith, r .at-least);
+      at-most = omega (arith, r .at-most);
+      ranges = λ k h. rw (at k h) at (r .ranges k (omega arith));
+      rising = λ k h. rw (at k (omega arith), at (k + 1) h) at (r .rising k (omega arith));
     }
 
 module _ (bytes before after : List ℕ) (areBytes : AreBytes bytes) (r : Built) (b : Builds bytes before after r) (yes : r .answer ≡ Accepted) where
@@ -195,9 +194,11 @@ module _ (bytes before after : List ℕ) (areBytes : AreBytes bytes) (r : Built)
       let t1 : getD (from-data .says .torques) 1 0 ≡ getD t 1 0 = ap (λ (x : List ℕ). getD x 1 0) (from-data .torques) ∙ getD-take n t 1 0 (omega arith) in
       map-of (r .grid) after
       (record {
-        speeds = axis-kept _ _ _ _ _ (data-rules .speeds) (from-data .speeds) (b .counts .speeds-length);
-        torques = axis-kept _ _ _ _ _ (data-rules .torques) (from-data .torques) (b .counts .torques-length);
-        step = rw (t0, t1) at (data-rules .step);
+        axes = record {
+          speeds = axis-kept _ _ _ _ _ (data-rules .speeds) (from-data .speeds) (b .counts .speeds-length);
+          torques = axis-kept _ _ _ _ _ (data-rules .torques) (from-data .torques) (b .counts .torques-length);
+          step = rw (t0, t1) at (data-rules .step);
+        };
         enough = omega (arith, length-take (m * n) after, ap length (from-data .entries-are), entries-long (from-data .says), product);
         small = entry-limit;
       })

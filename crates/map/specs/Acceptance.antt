@@ -5,11 +5,10 @@ use mathlib.Core.Bool.{false, true}
 use mathlib.Core.List.{List}
 use mathlib.Core.Logic.{_⊎_}
 use lib.ListN.{length, getD}
-use Rattle.refusal.specs.Outcome.{Told, accepted, refused}
+use Rattle.refusal.specs.Outcome.{refusal, Told, accepted, refused}
 use Rattle.component.specs.Component.{Component, Kind, standard, measured, component}
 use Rattle.layout.specs.Layout.{layout}
 use Rattle.layout.specs.Rules.{AreBytes, Rules}
-use Rattle.layout.specs.Faults.{refusal}
 use Rattle.layout.specs.Acceptance.{Fault}
 use Rattle.loss.specs.Measured.{lossIsUnderZero, measuredEntry}
 use Rattle.map.specs.Rows.{Torques, Bench, rowAt, rowOf}
@@ -94,3 +93,7 @@ pub data Reason (bytes : List ℕ) (lent : ℕ) (told : Told) : Type 0 where
 
 abbrev pub Refused : Type 0
 Refused = (bytes : List ℕ) (lent : ℕ) (told : Told) → AreBytes bytes → build bytes lent ≡ refused told → Reason bytes lent told
+
+-- and the other way round: where a reason holds, the build answers just that
+abbrev pub RefusedOnlyThen : Type 0
+RefusedOnlyThen = (bytes : List ℕ) (lent : ℕ) (told : Told) → Reason bytes lent told → build bytes lent ≡ refused told

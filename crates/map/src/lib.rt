@@ -78,9 +78,9 @@ fn under_zero(ratio: u16, input: u32, output: u32) -> bool
 }
 
 // The loss uncertainty of a row, in grains.
-fn uncertainty(bench: Bench, input: u32, output: u32) -> u64
+fn uncertainty(bench: Bench, input: u32, output: u32) -> u32
     requires { ⌜ BenchRight bench × (input ≤ 5000000) × (output ≤ 5000000) ⌝ }
-    ensures { λ r. ⌜ (r ≡ rowUncertainty (rowOf (benchOf bench) (torquesPair input output))) × (r ≤ 4294967296) ⌝ }
+    ensures { λ r. ⌜ r ≡ rowUncertainty (rowOf (benchOf bench) (torquesPair input output)) ⌝ }
 {
     let input_parts = bench.input;
     let output_parts = bench.output;
@@ -88,9 +88,9 @@ fn uncertainty(bench: Bench, input: u32, output: u32) -> u64
     let at_output = loss::sensor_steps(output_parts.sensor, output_parts.fixed, output);
     let parts = [
         loss::scaled_uncertainty(bench.ratio, at_input.uncertainty),
-        at_output.uncertainty,
+        at_output.uncertainty as u64,
     ];
-    loss::loss_uncertainty(&parts)
+    loss::loss_uncertainty(&parts) as u32
 }
 
 // The entry of a row, or its refusal.
@@ -198,8 +198,8 @@ fn fill_rows(
     RowsAnswer::Fine
 }
 
-// Writes a row to the first places of what is lent.
-fn copy_row(row: &[u32], entries: &mut [u32])
+// The row builder: puts a speed's row into its own stretch of the lent entries. It gets the mutable part of them that starts at speed times torque count.
+fn build_row(row: &[u32], entries: &mut [u32])
     requires { ⌜ length (now row) ≤ length (now entries) ⌝ }
     ensures { λ r. ⌜ now (entries .exit) ≡ now (row .entry) ++ drop (length (now (row .entry))) (now (entries .entry)) ⌝ }
 {
@@ -210,8 +210,8 @@ fn copy_row(row: &[u32], entries: &mut [u32])
     }
 }
 
-// Writes a row for each speed, from a part of what is given that starts step places further for each speed.
-fn copy_rows(from: &[u32], step: usize, size: usize, speeds: usize, entries: &mut [u32])
+// Each speed's row, one stretch after the other, from rows that were reckoned before: that of a speed starts step places after the one before.
+fn build_rows(from: &[u32], step: usize, size: usize, speeds: usize, entries: &mut [u32])
     requires { ⌜ (speeds * step + size ≤ length (now from) + step) × (speeds * size ≤ length (now entries)) × (speeds * step < 2 ^ 63) × (size < 2 ^ 63) ⌝ }
     ensures { λ r. ⌜ now (entries .exit) ≡ joined (stretch (now (from .entry)) step size) speeds ++ drop (length (joined (stretch (now (from .entry)) step size) speeds)) (now (entries .entry)) ⌝ }
 {
@@ -220,7 +220,7 @@ fn copy_rows(from: &[u32], step: usize, size: usize, speeds: usize, entries: &mu
     let mut speed: usize = 0;
     while speed < speeds {
         let end = source + size;
-        copy_row(&from[source..end], &mut entries[first..]);
+        build_row(&from[source..end], &mut entries[first..]);
         source += step;
         first += size;
         speed += 1;
@@ -260,7 +260,7 @@ fn build_standard(
     ensures { λ r. ⌜ now (entries .exit) ≡ joined (standardRow line ratio (now (torques .entry))) speeds ++ drop (length (joined (standardRow line ratio (now (torques .entry))) speeds)) (now (entries .entry)) ⌝ }
 {
     standard_row(line, ratio, torques, buffer);
-    copy_rows(buffer, 0, torques.len(), speeds, entries);
+    build_rows(buffer, 0, torques.len(), speeds, entries);
 }
 
 // Measured entries: all rows are checked before the first entry is written.
@@ -279,7 +279,7 @@ fn build_measured(
     match fill_rows(rows, place, bench, speeds, torques, buffer) {
         RowsAnswer::Refused(x) => RowsAnswer::Refused(x),
         RowsAnswer::Fine => {
-            copy_rows(buffer, torques.len(), torques.len(), speeds, entries);
+            build_rows(buffer, torques.len(), torques.len(), speeds, entries);
             RowsAnswer::Fine
         }
     }

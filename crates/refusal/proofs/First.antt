@@ -34,6 +34,11 @@ first-rest test n zero h f =
 first-rest test n (suc i) h f =
     first-rest test n i (omega arith) (λ k l. f k (omega arith)) ∙ (rw add-one at (first-more test i n (omega arith) (f i (omega arith))))
 
+-- a test that refuses after ones that accept is the first refusal
+pub first-refused : (test : ℕ → Outcome (Unit {0})) (n i : ℕ) (t : Told) → i < n → ((k : ℕ) → k < i → test k ≡ accepted tt) → test i ≡ refused t
+    → firstRefusal test 0 n ≡ refused t
+first-refused test n i t h f e = first-rest test n i (omega arith) f ∙ first-stops test i n t h e
+
 -- both parts of a sequence that is accepted
 then-fst : (o next : Outcome (Unit {0})) → (o >>= λ _. next) ≡ accepted tt → o ≡ accepted tt
 then-fst (accepted u) next e = refl

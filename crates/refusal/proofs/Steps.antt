@@ -4,7 +4,7 @@ use mathlib.Core.Path.{_≡_, refl, sym, ap, _∙_}
 use mathlib.Core.Bool.{Bool, true, false}
 use mathlib.Core.Logic.{_⊎_, inl, inr}
 use native.Mathlib.Omega.{arith}
-use Rattle.refusal.specs.Outcome.{Told, Outcome, accepted, refused, _>>=_, require, if_then_else_, placed}
+use Rattle.refusal.specs.Outcome.{Told, refusal, Outcome, accepted, refused, _>>=_, require, if_then_else_, placed}
 
 -- a refusal is no value
 pub never : {A P : Type 0} (t : Told) (a : A) → _≡_ {A = Outcome A} (refused t) (accepted a) → P
@@ -29,27 +29,27 @@ then-refused (refused u) next t e = inl (ap (λ (v : Told). refused v) (same-ref
 -- the same where the first step is a test
 pub test-accepted : {B : Type 0} (test : Bool) (number place : ℕ) (next : Outcome B) (b : B) → (require test number place >>= λ _. next) ≡ accepted b → (test ≡ true) × (next ≡ accepted b)
 test-accepted true number place next b e = (refl, e)
-test-accepted false number place next b e = never (record { number = number; place = place }) b e
+test-accepted false number place next b e = never (refusal number place) b e
 
 pub test-refused : {B : Type 0} (test : Bool) (number place : ℕ) (next : Outcome B) (t : Told) → (require test number place >>= λ _. next) ≡ refused t
-    → ((test ≡ false) × (t ≡ record { number = number; place = place })) ⊎ ((test ≡ true) × (next ≡ refused t))
+    → ((test ≡ false) × (t ≡ refusal number place)) ⊎ ((test ≡ true) × (next ≡ refused t))
 test-refused true number place next t e = inr (refl, e)
-test-refused false number place next t e = inl (refl, sym (same-refusal (record { number = number; place = place }) t e))
+test-refused false number place next t e = inl (refl, sym (same-refusal (refusal number place) t e))
 
 -- and where the test is the last step
 pub require-accepted : (test : Bool) (number place : ℕ) → require test number place ≡ accepted tt → test ≡ true
 require-accepted true number place e = refl
-require-accepted false number place e = never (record { number = number; place = place }) tt e
+require-accepted false number place e = never (refusal number place) tt e
 
-pub require-refused : (test : Bool) (number place : ℕ) (t : Told) → require test number place ≡ refused t → (test ≡ false) × (t ≡ record { number = number; place = place })
+pub require-refused : (test : Bool) (number place : ℕ) (t : Told) → require test number place ≡ refused t → (test ≡ false) × (t ≡ refusal number place)
 require-refused true number place t e = never t tt (sym e)
-require-refused false number place t e = (refl, sym (same-refusal (record { number = number; place = place }) t e))
+require-refused false number place t e = (refl, sym (same-refusal (refusal number place) t e))
 
 -- another place: accepted stays so, and a refusal keeps its number
 pub placed-accepted : {A : Type 0} (at : ℕ → ℕ) (o : Outcome A) (a : A) → placed at o ≡ accepted a → o ≡ accepted a
 placed-accepted at (accepted b) a e = e
-placed-accepted at (refused t) a e = never (record { number = t .number; place = at (t .place) }) a e
+placed-accepted at (refused t) a e = never (refusal (t .number) (at (t .place))) a e
 
-pub placed-refused : {A : Type 0} (at : ℕ → ℕ) (o : Outcome A) (t : Told) → placed at o ≡ refused t → (u : Told) × (o ≡ refused u) × (t ≡ record { number = u .number; place = at (u .place) })
+pub placed-refused : {A : Type 0} (at : ℕ → ℕ) (o : Outcome A) (t : Told) → placed at o ≡ refused t → (u : Told) × (o ≡ refused u) × (t ≡ refusal (u .number) (at (u .place)))
 placed-refused at (accepted a) t e = never t a (sym e)
-placed-refused at (refused u) t e = (u, refl, sym (same-refusal (record { number = u .number; place = at (u .place) }) t e))
+placed-refused at (refused u) t e = (u, refl, sym (same-refusal (refusal (u .number) (at (u .place))) t e))

@@ -7,13 +7,17 @@ pub record Told : Type 0 where
   pub number : ℕ
   pub place : ℕ
 
+-- the refusal of this number and place
+abbrev pub refusal : (number place : ℕ) → Told
+refusal number place = record { number = number; place = place }
+
 pub data Outcome (A : Type 0) : Type 0 where
   accepted : A → Outcome A
   refused : Told → Outcome A
 
--- the refusal of this number and place
+-- it ends in the refusal of this number and place
 abbrev pub refuse : {A : Type 0} → (number place : ℕ) → Outcome A
-refuse number place = refused (record { number = number; place = place })
+refuse number place = refused (refusal number place)
 
 infixl 10 _>>=_
 -- the first refusal ends it
@@ -41,4 +45,4 @@ firstRefusal test i (suc count) = do
 -- the same outcome with another place
 abbrev pub placed : {A : Type 0} → (ℕ → ℕ) → Outcome A → Outcome A
 placed at (accepted a) = accepted a
-placed at (refused t) = refused (record { number = t .number; place = at (t .place) })
+placed at (refused t) = refused (refusal (t .number) (at (t .place)))

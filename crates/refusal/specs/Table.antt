@@ -1,6 +1,6 @@
 -- Document 01, "Refusals": the number and the place of each case. Where no place is given it is 0.
 use Prim.Native.Nat.{ℕ}
-use Rattle.refusal.specs.Outcome.{Told}
+use Rattle.refusal.specs.Outcome.{Told, refusal}
 use Rattle.refusal.specs.declared.Refusal.{Refusal}
 use Rattle.refusal.specs.declared.Refusal.the-variants.{Incomplete, WrongTag, WrongLength, OutOfRange, NotRising, FirstTorqueAboveStep, AboveNominal, OffAxisTorque, NegativeLoss, EntryTooLarge, TooShort, TrailingBytes, SpeedOutside, TorqueAbove, NotAMap}
 
@@ -39,4 +39,4 @@ place TorqueAbove = 0
 place NotAMap = 0
 
 abbrev pub told : Refusal → Told
-told r = record { number = number r; place = place r }
+told r = refusal (number r) (place r)

@@ -16,6 +16,7 @@ use Rattle.component.specs.Component.{Component, component}
 use Rattle.component.specs.Answers.{CountsWithin}
 use Rattle.layout.specs.Rules.{AreBytes}
 use Rattle.layout.proofs.Theorems.{sound}
+use Rattle.layout.proofs.Lengths.{beginning-decides}
 use Rattle.map.specs.Build.{points, build}
 use Rattle.map.specs.Answers.{Builds}
 use Rattle.map.specs.declared.Built.{Built}
@@ -28,7 +29,7 @@ use Rattle.listing.specs.Answers.{listingAnswerOf, contentOf}
 use Rattle.listing.specs.declared.ListingAnswer.{ListingAnswer}
 use Rattle.listing.proofs.Fitted.{listed-map, fitted-whole}
 use Rattle.listing.proofs.Lengths.{listing-most}
-use Rattle.report.specs.Report.{reportOf, report, Reports}
+use Rattle.report.specs.Report.{reportOf, report, Reports, LimitLosesNothing}
 
 -- ---- the listing looks at the first count numbers and entries alone
 module _ (speeds torques entries : List ℕ) (m n : ℕ) where
@@ -87,3 +88,8 @@ pub enough-entries : (bytes : List ℕ) (c : Component) → AreBytes bytes → c
 enough-entries bytes c areBytes e =
     let rules = sound bytes c areBytes e .0 in
     mul-le-mul (rules .speeds .at-most) (rules .torques .at-most)
+
+-- the program's limit is above the longest data that is accepted
+pub limit-loses-nothing : LimitLosesNothing
+unfolding report build
+limit-loses-nothing bytes areBytes = rw (beginning-decides bytes 32768 areBytes (omega arith))

@@ -2,9 +2,10 @@
 use Prim.Native.Nat.{ℕ, _≤_}
 use mathlib.Core.Path.{_≡_}
 use mathlib.Core.List.{List}
-use lib.ListN.{length}
+use lib.ListN.{length, take}
 use Rattle.refusal.specs.Outcome.{Outcome, accepted, refused}
 use Rattle.grid.specs.Parts.{gridOf}
+use Rattle.layout.specs.Rules.{AreBytes}
 use Rattle.map.specs.Build.{LossMap, build, content}
 use Rattle.listing.specs.Listing.{listing, refusalLine, fitted}
 use Rattle.listing.specs.Answers.{listingAnswerOf, contentOf}
@@ -29,3 +30,7 @@ pub record Reports (bytes entriesBefore entriesAfter textBefore textAfter : List
 -- what the map program writes, which lends itself room for 2,048 entries
 abbrev pub programOutput : List ℕ → List ℕ
 programOutput bytes = report bytes 2048
+
+-- "at most the first 32,768 bytes": what follows them changes nothing that is written
+abbrev pub LimitLosesNothing : Type 0
+LimitLosesNothing = (bytes : List ℕ) → AreBytes bytes → programOutput (take 32768 bytes) ≡ programOutput bytes

@@ -1,6 +1,7 @@
 -- `component::read` meets its contract. Assumes nothing.
+use mathlib.Core.Path.{refl}
 use native.Mathlib.Omega.{arith}
-use Rattle.component.proofs.Readings.{points, points-most, axle-refused, axes-refused, kind-refused, bytes-left, all-read, refused-reading}
+use Rattle.component.proofs.Readings.{points, points-most, axle-refused, axes-refused, kind-refused, bytes-left, all-read, kind-said, refused-reading}
 use borrow.Author.Needs.{needs}
 use Rattle.component.proofs.read.Statement.{statement}
 use Rattle.component.proofs.read.Tie as tie
@@ -64,12 +65,20 @@ accepted-requires c κs = search needs
 
 returns-5 : tie.Need-returns-5
 returns-5 c =
+    let kind = c .before .before .before in
+    let axes = kind .before .before .before .before .before .before in
+    let axle = axes .before .before .before .before in
+    let axle-is = rw (axle .axle .given .1) at (axle .before .before .read-axle .ensures) in
+    let axes-are = axes .before .before .read-axes .ensures in
+    let kind-is = kind .before .before .read-kind .ensures in
+    let whole = all-read _ _ axle-is _ (rw (axes .answer2 .given .1) at (axes-are .0)) _ (points _ (axes-are .1)) _ (rw (kind .measured .given .1) at (kind-is .0)) (c .before .if1 .left) in
     rw (c .accepted .ensures)
     (record {
-      outcome = all-read _ _ (rw (c .before .before .before .before .before .before .before .before .before .before .before .before .before .axle .given .1) at (c .before .before .before .before .before .before .before .before .before .before .before .before .before .before .before .read-axle .ensures)) _ (rw (c .before .before .before .before .before .before .before .before .before .answer2 .given .1) at (c .before .before .before .before .before .before .before .before .before .before .before .read-axes .ensures .0)) _ (points _ (c .before .before .before .before .before .before .before .before .before .before .before .read-axes .ensures .1)) _ (rw (c .before .before .before .measured .given .1) at (c .before .before .before .before .before .read-kind .ensures .0)) (c .before .if1 .left);
-      counts = c .before .before .before .before .before .before .before .before .before .before .before .read-axes .ensures .1;
-      rows = (rw (c .before .before .before .measured .given .1) at (c .before .before .before .before .before .read-kind .ensures .1));
-      unstated = (rw (c .before .before .before .measured .given .1) at (c .before .before .before .before .before .read-kind .ensures .2));
+      outcome = whole;
+      kind = kind-said _ _ axle-is (kind .measured .given .0 .0) _ _ _ _ whole;
+      counts = axes-are .1;
+      rows = rw (kind .measured .given .1) at (kind-is .1);
+      unstated = rw (kind .measured .given .1) at (kind-is .2);
     })
 
 pub read-spec : {M : Type 1} → statement M

@@ -23,7 +23,7 @@ returns c = (listed-no-map _ _ _ (sym (c .before .map-parts-valid .ensures) ∙ 
 write-valid-requires : tie.Need-write-valid-requires
 write-valid-requires c κs =
     let map = map-facts _ _ (is-map (c .before)) in
-    (map .speeds .fits, map .torques .fits, map .enough)
+    (map .axes .speeds .at-most, map .axes .torques .at-most, map .enough)
 
 same-length : tie.Need-same-length
 same-length c = search needs

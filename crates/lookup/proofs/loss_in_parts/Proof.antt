@@ -9,7 +9,8 @@ use mir.Facts.{toZ-ofZ}
 use denote.Ref.{now}
 use Rattle.grid.specs.Map.{validMap}
 use Rattle.grid.specs.Parts.{gridOf}
-use Rattle.grid.proofs.Map.{Map, map-facts}
+use Rattle.grid.specs.Rules.{MapRules}
+use Rattle.grid.proofs.Map.{map-facts}
 use Rattle.lookup.proofs.Queries.{map-refused, loss-answered}
 use Rattle.lookup.proofs.Parts as parts
 use borrow.Author.Needs.{needs}
@@ -19,7 +20,7 @@ use Rattle.lookup.proofs.loss_in_parts.Tie as tie
 valid : (c : tie.Else1) → validMap (gridOf (now (c .before .before .before .args .speeds)) (c .before .before .before .args .speed-count) (now (c .before .before .before .args .torques)) (c .before .before .before .args .torque-count)) (now (c .before .before .before .args .entries)) ≡ true
 valid c = sym (c .before .map-parts-valid .ensures) ∙ not-false _ (c .if1 .left)
 
-facts : (c : tie.Else1) → Map (gridOf (now (c .before .before .before .args .speeds)) (c .before .before .before .args .speed-count) (now (c .before .before .before .args .torques)) (c .before .before .before .args .torque-count)) (now (c .before .before .before .args .entries))
+facts : (c : tie.Else1) → MapRules (gridOf (now (c .before .before .before .args .speeds)) (c .before .before .before .args .speed-count) (now (c .before .before .before .args .torques)) (c .before .before .before .args .torque-count)) (now (c .before .before .before .args .entries))
 facts c = map-facts _ _ (valid c)
 
 map-parts-valid-requires : tie.Need-map-parts-valid-requires
@@ -38,12 +39,12 @@ returns-2 : tie.Need-returns-2
 returns-2 c = sym (parts.speed-below _ _ _ _ _ (valid (c .before .before .before)) _ _ (c .before .number .ensures .0) (c .if2 .taken))
 
 sub-number : tie.Need-sub-number
-sub-number c = omega (arith, facts (c .before .before .before .before) .speeds .two)
+sub-number c = omega (arith, facts (c .before .before .before .before) .axes .speeds .at-least)
 
 number-requires-2 : tie.Need-number-requires-2
 number-requires-2 c κs =
     let f = facts (c .before .before .before .before) in
-    let a : c .before .before .before .before .before .before .before .args .speed-count - 1 < 32 = omega (arith, f .speeds .fits, f .speeds .two) in
+    let a : c .before .before .before .before .before .before .before .args .speed-count - 1 < 32 = omega (arith, f .axes .speeds .at-most, f .axes .speeds .at-least) in
     search needs
 
 mul-if3 : tie.Need-mul-if3
@@ -54,12 +55,12 @@ returns-3 c =
     sym (parts.speed-above _ _ _ _ _ (valid (c .before .before .before .before .before .before)) _ _ (c .before .before .before .before .number .ensures .0) (c .before .before .before .if2 .left) _ (c .before .number2 .ensures .0) (c .if3 .taken))
 
 sub-number-2 : tie.Need-sub-number-2
-sub-number-2 c = omega (arith, facts (c .before .before .before .before .before .before .before) .torques .two)
+sub-number-2 c = omega (arith, facts (c .before .before .before .before .before .before .before) .axes .torques .at-least)
 
 number-requires-3 : tie.Need-number-requires-3
 number-requires-3 c κs =
     let f = facts (c .before .before .before .before .before .before .before) in
-    let a : c .before .before .before .before .before .before .before .before .before .before .args .torque-count - 1 < 64 = omega (arith, f .torques .fits, f .torques .two) in
+    let a : c .before .before .before .before .before .before .before .before .before .before .args .torque-count - 1 < 64 = omega (arith, f .axes .torques .at-most, f .axes .torques .at-least) in
     search needs
 
 mul-if4 : tie.Need-mul-if4

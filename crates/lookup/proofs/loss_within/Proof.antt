@@ -5,27 +5,28 @@ use mir.Syntax.{w64}
 use mir.Facts.{toZ-ofZ}
 use denote.Ref.{now}
 use Rattle.grid.specs.Parts.{gridOf}
-use Rattle.grid.proofs.Map.{Map, map-facts}
+use Rattle.grid.specs.Rules.{MapRules}
+use Rattle.grid.proofs.Map.{map-facts}
 use Rattle.lookup.proofs.Parts.{cell-there, cell-bounds, loss-is}
 use borrow.Author.Needs.{needs}
 use Rattle.lookup.proofs.loss_within.Statement.{statement}
 use Rattle.lookup.proofs.loss_within.Tie as tie
 
-facts : (c : tie.Start) → Map (gridOf (now (c .args .speeds)) (c .args .speed-count) (now (c .args .torques)) (c .args .torque-count)) (now (c .args .entries))
+facts : (c : tie.Start) → MapRules (gridOf (now (c .args .speeds)) (c .args .speed-count) (now (c .args .torques)) (c .args .torque-count)) (now (c .args .entries))
 facts c = map-facts _ _ (c .pre .0)
 
 neighbour-requires : tie.Need-neighbour-requires
 neighbour-requires c κs =
     let f = facts (c .before .before) in
-    let a : c .before .before .args .speed-count ≤ 32 = f .speeds .fits in
-    let d : 2 ≤ c .before .before .args .speed-count = f .speeds .two in
+    let a : c .before .before .args .speed-count ≤ 32 = f .axes .speeds .at-most in
+    let d : 2 ≤ c .before .before .args .speed-count = f .axes .speeds .at-least in
     search needs
 
 neighbour-requires-2 : tie.Need-neighbour-requires-2
 neighbour-requires-2 c κs =
     let f = facts (c .before .before .before .before) in
-    let a : c .before .before .before .before .args .torque-count ≤ 64 = f .torques .fits in
-    let d : 2 ≤ c .before .before .before .before .args .torque-count = f .torques .two in
+    let a : c .before .before .before .before .args .torque-count ≤ 64 = f .axes .torques .at-most in
+    let d : 2 ≤ c .before .before .before .before .args .torque-count = f .axes .torques .at-least in
     search needs
 
 cell-numbers-requires : tie.Need-cell-numbers-requires

@@ -26,15 +26,15 @@ returns c = sym (grid-refused _ _ (sym (c .before .grid-parts-valid .ensures) �
 nearest-number-requires : tie.Need-nearest-number-requires
 nearest-number-requires c κs =
     let f = grid-facts _ (valid (c .before)) in
-    let a : c .before .before .before .args .speed-count ≤ 32 = f .speeds .fits in
-    let d : 0 < c .before .before .before .args .speed-count = omega (arith, f .speeds .two) in
+    let a : c .before .before .before .args .speed-count ≤ 32 = f .speeds .at-most in
+    let d : 0 < c .before .before .before .args .speed-count = omega (arith, f .speeds .at-least) in
     search needs
 
 nearest-number-requires-2 : tie.Need-nearest-number-requires-2
 nearest-number-requires-2 c κs =
     let f = grid-facts _ (valid (c .before .before .before)) in
-    let a : c .before .before .before .before .before .args .torque-count ≤ 64 = f .torques .fits in
-    let d : 0 < c .before .before .before .before .before .args .torque-count = omega (arith, f .torques .two) in
+    let a : c .before .before .before .before .before .args .torque-count ≤ 64 = f .torques .at-most in
+    let d : 0 < c .before .before .before .before .before .args .torque-count = omega (arith, f .torques .at-least) in
     search needs
 
 returns-2 : tie.Need-returns-2

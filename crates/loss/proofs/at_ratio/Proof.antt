@@ -6,8 +6,8 @@ use native.Mathlib.Nat.{mul-le-mul}
 use Rattle.loss.proofs.at_ratio.Statement.{statement}
 use Rattle.loss.proofs.at_ratio.Tie as tie
 
-within : (c : tie.Start) → c .args .torque * c .args .ratio ≤ 4294967295 * 65535
-within c = let h : c .args .torque ≤ 4294967295 = omega arith in let k : c .args .ratio ≤ 65535 = omega arith in mul-le-mul h k
+within : (c : tie.Start) → c .args .n * c .args .ratio ≤ 4294967295 * 65535
+within c = let h : c .args .n ≤ 4294967295 = omega arith in let k : c .args .ratio ≤ 65535 = omega arith in mul-le-mul h k
 
 mul-result : tie.Need-mul-result
 mul-result c = omega (arith, within c)

@@ -5,7 +5,7 @@ use native.Mathlib.Omega.{arith}
 use lib.ListN.{length, drop, getD}
 use Rattle.arith.specs.Root.{rootUp}
 use Rattle.loss.specs.Measured.{sumOfSquares, lossUncertainty}
-use Rattle.loss.proofs.Parts.{next-square, no-square-left, loss-uncertainty-at-most}
+use Rattle.loss.proofs.Parts.{next-square, no-square-left, root-at-most}
 use Rattle.loss.proofs.loss_uncertainty.Statement.{statement}
 use Rattle.loss.proofs.loss_uncertainty.Tie as tie
 
@@ -54,7 +54,7 @@ unfolding lossUncertainty
 returns c =
     let p = c .before .before .before .before .pre in
     let e = c .root-up .ensures in
-    (e ∙ ap rootUp (total c), rw e (loss-uncertainty-at-most _ (omega (arith, total c, p))))
+    (e ∙ ap rootUp (total c), rw e (root-at-most _ 4294967296 (omega (arith, total c, p))))
 
 pub loss-uncertainty-spec : {M : Type 1} → statement M
 loss-uncertainty-spec =

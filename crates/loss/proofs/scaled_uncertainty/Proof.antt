@@ -1,20 +1,21 @@
 -- `loss::scaled_uncertainty` meets its contract. Assumes nothing.
-use native.Mathlib.Omega.{arith}
-use native.Mathlib.Nat.{mul-le-mul}
+use mathlib.Core.Path.{ap, _∙_}
+use Prim.Native.Nat.{ℕ}
+use Rattle.arith.specs.Quotient.{quotientUp}
 use Rattle.loss.specs.Measured.{scaledUncertainty}
-use Rattle.loss.proofs.Parts.{scaled-at-most}
+use borrow.Author.Needs.{needs}
 use Rattle.loss.proofs.scaled_uncertainty.Statement.{statement}
 use Rattle.loss.proofs.scaled_uncertainty.Tie as tie
 
-mul-rounded-up : tie.Need-mul-rounded-up
-mul-rounded-up c = omega (arith, mul-le-mul (c .pre .1) (c .pre .0))
+at-ratio-requires : tie.Need-at-ratio-requires
+at-ratio-requires c κs = search needs
 
 rounded-up-requires : tie.Need-rounded-up-requires
-rounded-up-requires c κs = (omega arith, omega (arith, mul-le-mul (c .pre .1) (c .pre .0)))
+rounded-up-requires c κs = search needs
 
 returns : tie.Need-returns
 unfolding scaledUncertainty
-returns c = (c .rounded-up .ensures, rw (c .rounded-up .ensures) (scaled-at-most (c .before .pre .0) (c .before .pre .1)))
+returns c = c .rounded-up .ensures ∙ ap (λ (n : ℕ). quotientUp n 1000) (c .before .at-ratio .ensures .0)
 
 pub scaled-uncertainty-spec : {M : Type 1} → statement M
-scaled-uncertainty-spec = tie.close (tie.spec mul-rounded-up rounded-up-requires returns)
+scaled-uncertainty-spec = tie.close (tie.spec at-ratio-requires rounded-up-requires returns)

@@ -32,6 +32,9 @@ sensor-uncertainty-requires c κs =
     let f = fixed-at-most _ 0 _ (p .1) (p .0) in
     (rw (is-part c) (sensitivity-at-most (p .0) (p .2)), f .0, f .1, f .2)
 
+cast-t12 : tie.Need-cast-t12
+cast-t12 c = search needs
+
 returns : tie.Need-returns
 returns c =
     let p = c .before .before .before .before .pre in
@@ -47,4 +50,5 @@ sensor-steps-spec =
     mul-rounded-up
     rounded-up-requires
     sensor-uncertainty-requires
+    cast-t12
     returns)

@@ -17,8 +17,8 @@ enum-known-x c = search needs
 enum-told : tie.Need-enum-told
 enum-told c = search needs
 
-copy-rows-requires : tie.Need-copy-rows-requires
-copy-rows-requires c κs = search needs
+build-rows-requires : tie.Need-build-rows-requires
+build-rows-requires c κs = search needs
 
 same-length : tie.Need-same-length
 same-length c = search needs
@@ -36,7 +36,7 @@ returns-2 : tie.Need-returns-2
 returns-2 c = (
   rw (c .before .before .before .before .before .enum-told .given .1) at (c .before .before .before .before .before .before .before .before .before .fill-rows .ensures .0),
   rw (own-stretch (speedPartEntries (benchOf (c .before .before .before .before .before .before .before .before .before .before .before .before .before .before .before .args .bench)) (now (c .before .before .before .before .before .before .before .before .before .before .before .before .before .before .before .args .torques)) (now (c .before .before .before .before .before .before .before .before .before .before .before .before .before .before .before .args .rows))) _ _ _ _ (speed-size _ _ _ _) (rw (c .before .before .before .before .before .enum-told .given .1) at (c .before .before .before .before .before .before .before .before .before .fill-rows .ensures .1))) at
-      (c .before .before .copy-rows .ensures),
+      (c .before .before .build-rows .ensures),
 )
 
 pub build-measured-spec : {M : Type 1} → statement M
@@ -46,7 +46,7 @@ build-measured-spec =
     fill-rows-requires
     enum-known-x
     enum-told
-    copy-rows-requires
+    build-rows-requires
     same-length
     returns
     same-length-2

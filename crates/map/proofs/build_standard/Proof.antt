@@ -11,8 +11,8 @@ use Rattle.map.proofs.build_standard.Tie as tie
 standard-row-requires : tie.Need-standard-row-requires
 standard-row-requires c κs = search needs
 
-copy-rows-requires : tie.Need-copy-rows-requires
-copy-rows-requires c κs = search needs
+build-rows-requires : tie.Need-build-rows-requires
+build-rows-requires c κs = search needs
 
 same-length : tie.Need-same-length
 same-length c = search needs
@@ -24,8 +24,8 @@ returns : tie.Need-returns
 unfolding standardRow
 returns c =
     rw (same-row (standardRow (c .before .before .before .before .before .before .before .before .before .before .before .before .args .line) (c .before .before .before .before .before .before .before .before .before .before .before .before .args .ratio) (now (c .before .before .before .before .before .before .before .before .before .before .before .before .args .torques))) _ _ _ _ _ (length-tabulate _ _) (c .before .before .before .before .before .before .before .standard-row .ensures) (λ s. refl)) at
-    (c .before .before .copy-rows .ensures)
+    (c .before .before .build-rows .ensures)
 
 pub build-standard-spec : {M : Type 1} → statement M
 build-standard-spec =
-    tie.close (tie.spec standard-row-requires copy-rows-requires same-length same-length-2 returns)
+    tie.close (tie.spec standard-row-requires build-rows-requires same-length same-length-2 returns)

@@ -49,13 +49,13 @@ measured-entry-requires : tie.Need-measured-entry-requires
 measured-entry-requires c κs = search needs
 
 returns-5 : tie.Need-returns-5
-returns-5 c = too-large _ _ _ _ (c .before .before .before .before .before .before .before .before .before .if1 .left) (c .before .before .before .before .before .before .before .if2 .left) (sym (c .before .before .before .before .before .before .near-axis .ensures) ∙ not-false _ (c .before .before .before .before .before .if3 .left)) (sym (c .before .before .before .before .under-zero .ensures) ∙ c .before .before .before .if4 .left) _ (entry-is _ _ _ _ (c .before .before .uncertainty .ensures .0) (c .before .measured-entry .ensures)) (c .if5 .taken)
+returns-5 c = too-large _ _ _ _ (c .before .before .before .before .before .before .before .before .before .if1 .left) (c .before .before .before .before .before .before .before .if2 .left) (sym (c .before .before .before .before .before .before .near-axis .ensures) ∙ not-false _ (c .before .before .before .before .before .if3 .left)) (sym (c .before .before .before .before .under-zero .ensures) ∙ c .before .before .before .if4 .left) _ (entry-is _ _ _ _ (c .before .before .uncertainty .ensures) (c .before .measured-entry .ensures)) (c .if5 .taken)
 
-cast-t9 : tie.Need-cast-t9
-cast-t9 c = search needs
+cast-t10 : tie.Need-cast-t10
+cast-t10 c = search needs
 
 returns-6 : tie.Need-returns-6
-returns-6 c = entry-given _ _ _ _ (c .before .before .before .before .before .before .before .before .before .if1 .left) (c .before .before .before .before .before .before .before .if2 .left) (sym (c .before .before .before .before .before .before .near-axis .ensures) ∙ not-false _ (c .before .before .before .before .before .if3 .left)) (sym (c .before .before .before .before .under-zero .ensures) ∙ c .before .before .before .if4 .left) _ (entry-is _ _ _ _ (c .before .before .uncertainty .ensures .0) (c .before .measured-entry .ensures)) (c .if5 .left)
+returns-6 c = entry-given _ _ _ _ (c .before .before .before .before .before .before .before .before .before .if1 .left) (c .before .before .before .before .before .before .before .if2 .left) (sym (c .before .before .before .before .before .before .near-axis .ensures) ∙ not-false _ (c .before .before .before .before .before .if3 .left)) (sym (c .before .before .before .before .under-zero .ensures) ∙ c .before .before .before .if4 .left) _ (entry-is _ _ _ _ (c .before .before .uncertainty .ensures) (c .before .measured-entry .ensures)) (c .if5 .left)
 
 pub row-entry-spec : {M : Type 1} → statement M
 row-entry-spec =
@@ -76,5 +76,5 @@ row-entry-spec =
     uncertainty-requires
     measured-entry-requires
     returns-5
-    cast-t9
+    cast-t10
     returns-6)

@@ -14,8 +14,8 @@ sub-if2 c = search needs
 returns-2 : tie.Need-returns-2
 returns-2 c = incomplete _ _ _ _ (c .before .if1 .left) (c .if2 .taken)
 
-shared-slice-read-if3 : tie.Need-shared-slice-read-if3
-shared-slice-read-if3 c = search needs
+shared-slice-read-kind : tie.Need-shared-slice-read-kind
+shared-slice-read-kind c = search needs
 
 returns-3 : tie.Need-returns-3
 returns-3 c = other-tag _ _ _ _ (c .before .before .before .if1 .left) (c .before .before .if2 .left) (c .if3 .taken)
@@ -53,8 +53,8 @@ sub-if5 c = search needs
 returns-5 : tie.Need-returns-5
 returns-5 c = past-end _ _ _ _ (c .before .before .before .before .before .before .before .before .if1 .left) (c .before .before .before .before .before .before .before .if2 .left) _ (c .before .before .before .before .before .if3 .left) (c .before .before .before .number-of .ensures) (sym (c .before .before .allows .ensures) ∙ not-false _ (c .before .if4 .left)) (c .if5 .taken)
 
-add-t12 : tie.Need-add-t12
-add-t12 c = search needs
+add-t13 : tie.Need-add-t13
+add-t13 c = search needs
 
 returns-6 : tie.Need-returns-6
 returns-6 c = whole _ _ _ _ (c .before .before .before .before .before .before .before .before .if1 .left) (c .before .before .before .before .before .before .before .if2 .left) _ (c .before .before .before .before .before .if3 .left) (c .before .before .before .number-of .ensures) (sym (c .before .before .allows .ensures) ∙ not-false _ (c .before .if4 .left)) (c .if5 .left)
@@ -66,7 +66,7 @@ field-spec =
     returns
     sub-if2
     returns-2
-    shared-slice-read-if3
+    shared-slice-read-kind
     returns-3
     add-length-at
     add-start
@@ -79,5 +79,5 @@ field-spec =
     returns-4
     sub-if5
     returns-5
-    add-t12
+    add-t13
     returns-6)

@@ -1,4 +1,4 @@
--- Worked cases: two maps of the line SR at ratio 3.000, the weights of a point of each, its answer, and that answer's limits. Assumes nothing.
+-- Two maps of the line SR at ratio 3.000, the weights of a point of each, its answer, and that answer's limits against fractions that lie anywhere on their sides. Assumes nothing.
 use Prim.Native.Nat.{ℕ, zero, suc, _+_, _<_}
 use mathlib.Core.Path.{_≡_, refl}
 use mathlib.Core.Bool.{Bool, true, _&&_}
@@ -10,15 +10,16 @@ use lib.Dec.{eqb}
 use lib.IntN.{pos}
 use lib.ListN.{getD}
 use Rattle.arith.specs.Quotient.{quotientUp}
-use Rattle.arith.specs.Fraction.{Fraction, _less_over_, _over_, whole, signed, _⊕_, _⊗_, cleared, _≼_, _≺_, RoundsUp}
+use Rattle.arith.specs.Fraction.{Fraction, _less_over_, _over_, whole, signed, _⊕_, _⊖_, _⊗_, cleared, _≼_, _≺_, RoundsUp}
 use Rattle.loss.specs.Rounding.{roundUp}
 use Rattle.loss.specs.Standard.{lineOf, standardLoss, standardEntry}
 use Rattle.loss.specs.Exact.{Cut, cut, exactStandard}
+use Rattle.loss.proofs.Cuts.{square-not-negative}
 use Rattle.loss.proofs.Accuracy.{standard-at-or-below, standard-at-or-above, standard-entry-accurate}
-use Rattle.lookup.specs.Cell.{Point, Cell, Has, lower, upper, Corners, share, weight, sum, index, corners}
+use Rattle.lookup.specs.Cell.{Point, Cell, Has, Side, lower, upper, Corners, share, weight, sum, index, corners}
 use Rattle.lookup.proofs.Axes.{Rising, Axes}
-use Rattle.accuracy.specs.Claim.{EntriesAccurate, ChosenBelow, ChosenAbove, entrySum, Limits}
+use Rattle.accuracy.specs.Claim.{EntriesAccurate, exactCorner, ChosenBelow, ChosenAbove, entrySum, Limits}
 use Rattle.accuracy.proofs.Limits.{limits}
 
 -- ---- the maps
 
@@ -142,4 +143,98 @@ pub under-worked : (sum speeds fromThousand under cell (losses fromThousand) ≺
 under-worked = (
   under-limits .low-below (omega arith) (losses fromThousand) (losses-below fromThousand under),
   under-limits .high-below (omega arith) (losses fromThousand) (losses-above fromThousand under),
+)
+
+-- ---- a choice lies anywhere on its side: at 0 Nm a hundredth below the exact loss where the weight is 2, a hundredth above it where it is minus 1, and 0 where it is 0
+
+-- the exact loss with a hundredth taken from it, and with one added
+abbrev hundredthBelow : Side → Fraction
+hundredthBelow t = losses fromThousand lower t ⊖ whole 1
+
+abbrev hundredthAbove : Side → Fraction
+hundredthAbove t = losses fromThousand lower t ⊕ whole 1
+
+abbrev belowChoice : Corners Fraction
+belowChoice lower lower = hundredthBelow lower
+belowChoice lower upper = hundredthAbove upper
+belowChoice upper t = whole 0
+
+abbrev aboveChoice : Corners Fraction
+aboveChoice lower lower = hundredthAbove lower
+aboveChoice lower upper = hundredthBelow upper
+aboveChoice upper t = whole 0
+
+pub strictly-below : (t : Side) → hundredthBelow t ≺ losses fromThousand lower t
+unfolding index standardLoss whole _over_ _less_over_ _⊕_ _⊖_ _⊗_ _≺_ IsLe
+strictly-below lower = le-by-compare _ _ tt
+strictly-below upper = le-by-compare _ _ tt
+
+pub strictly-above : (t : Side) → losses fromThousand lower t ≺ hundredthAbove t
+unfolding index standardLoss whole _over_ _less_over_ _⊕_ _⊖_ _⊗_ _≺_ IsLe
+strictly-above lower = le-by-compare _ _ tt
+strictly-above upper = le-by-compare _ _ tt
+
+at-most-of-below : (x y : Fraction) → x ≺ y → x ≼ y
+unfolding _≼_ _≺_
+at-most-of-below x y h = omega arith
+
+-- each is on its side of the exact entry
+at-or-below : (t : Side) → exact fromThousand 0 (index 0 t) .AtOrBelow (hundredthBelow t)
+unfolding cut exactStandard
+at-or-below t = inl (at-most-of-below _ _ (strictly-below t))
+
+at-or-above : (t : Side) → exact fromThousand 0 (index 0 t) .AtOrAbove (hundredthAbove t)
+unfolding cut exactStandard
+at-or-above t = (at-most-of-below _ _ (strictly-above t), square-not-negative _)
+
+-- the weights are 2, minus 1, 0 and 0: which of them are positive and which negative
+weight-of : Corners Fraction
+weight-of = weight speeds fromThousand under cell
+
+not-negative : whole 0 ≺ weight-of lower upper → ⊥
+unfolding weight-of weight share whole _over_ _less_over_ _⊗_ _≺_
+not-negative h = omega arith
+
+not-positive : weight-of lower lower ≺ whole 0 → ⊥
+unfolding weight-of weight share whole _over_ _less_over_ _⊗_ _≺_
+not-positive h = omega arith
+
+no-weight : (t : Side) → (whole 0 ≺ weight-of upper t → ⊥) × (weight-of upper t ≺ whole 0 → ⊥)
+unfolding weight-of weight share whole _over_ _less_over_ _⊗_ _≺_
+no-weight lower = (λ h. omega arith, λ h. omega arith)
+no-weight upper = (λ h. omega arith, λ h. omega arith)
+
+pub below-chosen : ChosenBelow speeds fromThousand (exact fromThousand) under cell belowChoice
+unfolding weight-of
+below-chosen = record { positive = positive; negative = negative }
+  where
+    positive : (s t : Side) → whole 0 ≺ weight-of s t → exactCorner (exact fromThousand) cell s t .AtOrBelow (belowChoice s t)
+    positive lower lower h = at-or-below lower
+    positive lower upper h = absurd (not-negative h)
+    positive upper t h = absurd (no-weight t .0 h)
+
+    negative : (s t : Side) → weight-of s t ≺ whole 0 → exactCorner (exact fromThousand) cell s t .AtOrAbove (belowChoice s t)
+    negative lower lower h = absurd (not-positive h)
+    negative lower upper h = at-or-above upper
+    negative upper t h = absurd (no-weight t .1 h)
+
+pub above-chosen : ChosenAbove speeds fromThousand (exact fromThousand) under cell aboveChoice
+unfolding weight-of
+above-chosen = record { positive = positive; negative = negative }
+  where
+    positive : (s t : Side) → whole 0 ≺ weight-of s t → exactCorner (exact fromThousand) cell s t .AtOrAbove (aboveChoice s t)
+    positive lower lower h = at-or-above lower
+    positive lower upper h = absurd (not-negative h)
+    positive upper t h = absurd (no-weight t .0 h)
+
+    negative : (s t : Side) → weight-of s t ≺ whole 0 → exactCorner (exact fromThousand) cell s t .AtOrBelow (aboveChoice s t)
+    negative lower lower h = absurd (not-positive h)
+    negative lower upper h = at-or-below upper
+    negative upper t h = absurd (no-weight t .1 h)
+
+-- and the limits hold against them
+pub chosen-worked : (sum speeds fromThousand under cell belowChoice ≺ signed (pos 13000) ⊕ whole 1) × (signed (pos 13000) ≺ sum speeds fromThousand under cell aboveChoice ⊕ whole 3)
+chosen-worked = (
+  under-limits .low-below (omega arith) belowChoice below-chosen,
+  under-limits .high-below (omega arith) aboveChoice above-chosen,
 )

@@ -1,4 +1,4 @@
--- Document 01, "Reckoned by hand": every line marked for the proved set, shown of the written definitions by one statement over a list of them. Assumes nothing.
+-- Document 01, "Reckoned by hand": every line marked for the proved set, as what is computed beside what the paper has.
 use Prim.Native.Nat.{ℕ}
 use mathlib.Core.Path.{_≡_, refl}
 use mathlib.Core.List.{List, [], _∷_}
@@ -28,9 +28,10 @@ use Rattle.report.specs.Report.{reportOf, report}
 use Rattle.lookup.specs.Cell.{Point, share, weight, sum, index, corners}
 use Rattle.lookup.specs.Loss.{lastUpTo, neighbour, cellOf, ceiling, lossAt, lossAnswer}
 use Rattle.lookup.specs.Nearest.{GridPoint, nearestIndex, nearestNumber, nearestAnswer}
+use Rattle.worked.specs.Data.{standardData}
 
 -- what is computed, and what document 01 has
-data Case : Type 0 where
+pub data Case : Type 0 where
   number-case : (computed expected : ℕ) → Case
   text-case : (computed expected : List ℕ) → Case
   map-case : (computed expected : Outcome LossMap) → Case
@@ -38,7 +39,7 @@ data Case : Type 0 where
   loss-case : (computed expected : Outcome ℤ) → Case
   nearest-case : (computed expected : Outcome GridPoint) → Case
 
-Holds : Case → Type 0
+abbrev pub Holds : Case → Type 0
 Holds (number-case computed expected) = computed ≡ expected
 Holds (text-case computed expected) = computed ≡ expected
 Holds (map-case computed expected) = computed ≡ expected
@@ -46,38 +47,33 @@ Holds (row-case computed expected) = computed ≡ expected
 Holds (loss-case computed expected) = computed ≡ expected
 Holds (nearest-case computed expected) = computed ≡ expected
 
-Hold : List Case → Type 0
+abbrev pub Hold : List Case → Type 0
 Hold [] = Unit
 Hold (e ∷ es) = Holds e × Hold es
 
--- the 27 bytes of "The map program"
-listingData : List ℕ
-listingData =
-    1 ∷ 0 ∷ 1 ∷ 1 ∷ 2 ∷ 0 ∷ 1 ∷ 1 ∷ 3 ∷ 0 ∷ 2 ∷ 0x0B ∷ 0xB8 ∷ 4 ∷ 0 ∷ 4 ∷ 0 ∷ 0x64 ∷ 0 ∷ 0xC8 ∷ 5 ∷ 0 ∷ 4 ∷ 0 ∷ 0 ∷ 3 ∷ 0xE8 ∷ []
-
-gridWith : ℕ → ℕ → Grid
+abbrev pub gridWith : ℕ → ℕ → Grid
 gridWith first second = gridOf (100 ∷ 200 ∷ []) 2 (first ∷ second ∷ []) 2
 
-point : ℕ → ℕ → Point
+abbrev pub point : ℕ → ℕ → Point
 point speed torque = record { speed = speed; torque = torque }
 
 -- "c 100 and k 1,000 at both sensors, all other influences 0"
-sensor : ℕ → Sensor
+abbrev pub sensor : ℕ → Sensor
 sensor N = record { nominal = N; sensitivity = 0; zero = 0; calibration = 100; advancement = 1000; parasitic = 0; share = 0; difference = 0; span = 10 }
 
 -- "Ratio 3.000; .. N 10,000 in, 40,000 out"
-bench : Bench
+abbrev pub bench : Bench
 bench = record { ratio = 3000; input = sensor 10000; output = sensor 40000 }
 
 -- "Output 3,000.00", at the axis torque 3,000
-torques : ℕ → Torques
+abbrev pub torques : ℕ → Torques
 torques input = record { input = input; output = 300000 }
 
-cases : List Case
+abbrev pub cases : List Case
 cases =
     -- the listing's map, from its bytes to its entries, its text and its answer
-    map-case (build listingData 4) (accepted (record { speeds = 100 ∷ 200 ∷ []; torques = 0 ∷ 1000 ∷ []; entries = 13000 ∷ 15041 ∷ 13000 ∷ 15041 ∷ [] }))
-    ∷ text-case (report listingData 4) (bytes "speed,torque,loss\n100,0,130.00\n100,1000,150.41\n200,0,130.00\n200,1000,150.41\n")
+    map-case (build standardData 4) (accepted (record { speeds = 100 ∷ 200 ∷ []; torques = 0 ∷ 1000 ∷ []; entries = 13000 ∷ 15041 ∷ 13000 ∷ 15041 ∷ [] }))
+    ∷ text-case (report standardData 4) (bytes "speed,torque,loss\n100,0,130.00\n100,1000,150.41\n200,0,130.00\n200,1000,150.41\n")
     ∷ loss-case (lossAnswer (gridWith 0 1000) (13000 ∷ 15041 ∷ 13000 ∷ 15041 ∷ []) (point 1000 50000)) (accepted (pos 14021))
     -- SR, ratio 3.000, 9,800 Nm; HRT, 7.000, 950 Nm
     ∷ number-case (standardEntry 1 3000 9800) 33000
@@ -90,7 +86,10 @@ cases =
     -- parts 1, 0, 0, 0 and 0, 0, 1, 0
     ∷ number-case (sensorUncertainty 1 0 0 0) 2
     ∷ number-case (sensorUncertainty 0 0 1 0) 2
-    -- input 1,100.00, 1,020.00, 1,000.00 and 999.99
+    -- U of both sensors and the loss uncertainty; then input 1,100.00, 1,020.00, 1,000.00 and 999.99
+    ∷ number-case (sensorSteps (sensor 10000) 110000 .uncertainty) 20000
+    ∷ number-case (sensorSteps (sensor 40000) 300000 .uncertainty) 80000
+    ∷ number-case (rowUncertainty (rowOf bench (torques 110000))) 100000
     ∷ number-case (measuredEntry (rowOf bench (torques 110000))) 30000
     ∷ number-case (measuredEntry (rowOf bench (torques 102000))) 6700
     ∷ number-case (measuredEntry (rowOf bench (torques 100000))) 900
@@ -100,7 +99,3 @@ cases =
     ∷ nearest-case (nearestAnswer (gridWith 0 1000) (point 1500 0)) (accepted (record { speed = 100; torque = 0 }))
     ∷ nearest-case (nearestAnswer (gridWith 0 1000) (point 1501 0)) (accepted (record { speed = 200; torque = 0 }))
     ∷ []
-
-hold : Hold cases
-unfolding Hold Holds cases listingData gridWith point sensor bench torques component axleFields axesFields kindFields measuredFields head field number axis pairs within rises axisNumber axisNumbers firstStep firstRefusal build mapOf rowsCheck speedCheck check checkOfKind entries speedEntries entry entryOfKind tabulate joined standardEntry standardLoss roundUp partAbove underZero sensorUncertainty sensorSteps grainsUp temperatureOnSensitivity temperatureOnZero calibration parasiticLoads scaledUncertainty readingUncertainty lossUncertainty rowUncertainty readings measuredEntry entryOf allowance measuredLoss lossIsUnderZero nearAxis rowCheck report reportOf digitCountBy digitCount decimal hundredths header line row rows listing refusalLine lossAnswer lossAt cellOf neighbour lastUpTo ceiling sum weight share corners index nearestAnswer nearestNumber nearestIndex validMap validEntries validGrid validSpeeds validTorques validNumbers every _less_over_ _over_ whole _⊕_ _⊖_ _⊗_ larger quotientUp quotientDown rootUp
-hold = (refl, (refl, (refl, (refl, (refl, (refl, (refl, (refl, (refl, (refl, (refl, (refl, (refl, (refl, (refl, (refl, (refl, (refl, tt))))))))))))))))))

@@ -1,10 +1,10 @@
--- `map::copy_row` meets its contract. Assumes nothing.
+-- `map::build_row` meets its contract. Assumes nothing.
 use Prim.Native.Nat.{_-_}
 use lib.ListN.{length}
 use borrow.Author.Needs.{needs}
 use Rattle.map.proofs.Copying.{Copying, none-copied, one-copied, all-copied}
-use Rattle.map.proofs.copy_row.Statement.{statement}
-use Rattle.map.proofs.copy_row.Tie as tie
+use Rattle.map.proofs.build_row.Statement.{statement}
+use Rattle.map.proofs.build_row.Tie as tie
 
 abbrev Inv-loop : tie.InvT-loop
 Inv-loop row entries₀ i₀ entries i = Copying row entries₀ entries i
@@ -42,8 +42,8 @@ same-length c = search needs
 returns : tie.Need-returns Inv-loop μ-loop
 returns c = all-copied _ _ _ _ (c .before .loop .inv) (c .loop-test .left)
 
-pub copy-row-spec : {M : Type 1} → statement M
-copy-row-spec =
+pub build-row-spec : {M : Type 1} → statement M
+build-row-spec =
     tie.close
     (tie.spec
     Inv-loop

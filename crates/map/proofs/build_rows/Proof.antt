@@ -1,4 +1,4 @@
--- `map::copy_rows` meets its contract. Assumes nothing.
+-- `map::build_rows` meets its contract. Assumes nothing.
 use Prim.Native.Nat.{_+_, _-_, _*_, _≤_}
 use mathlib.Core.Path.{_≡_, refl, sym}
 use native.Mathlib.Omega.{arith}
@@ -12,8 +12,8 @@ use Rattle.map.specs.Answers.{stretch}
 use Rattle.map.proofs.Joining.{Joining, none-joined, room, one-joined, all-joined, tail-lent}
 use Rattle.grid.proofs.Points.{row-within}
 use Rattle.map.proofs.Copying.{source-room, stretch-size, stretch-is}
-use Rattle.map.proofs.copy_rows.Statement.{statement}
-use Rattle.map.proofs.copy_rows.Tie as tie
+use Rattle.map.proofs.build_rows.Statement.{statement}
+use Rattle.map.proofs.build_rows.Tie as tie
 
 abbrev Inv-loop : tie.InvT-loop
 Inv-loop from step size speeds entries₀ source₀ first₀ speed₀ entries source first speed =
@@ -39,32 +39,32 @@ loop-holds c = (sym (zero-mul _), none-joined _ _ _ _ (stretch-size _ _ _ _ (c .
 add-end : tie.Need-add-end Inv-loop μ-loop
 add-end c = omega (arith, within c)
 
-mul-copy-row : tie.Need-mul-copy-row Inv-loop μ-loop
-mul-copy-row c = omega (arith, within c)
+mul-build-row : tie.Need-mul-build-row Inv-loop μ-loop
+mul-build-row c = omega (arith, within c)
 
-sub-copy-row : tie.Need-sub-copy-row Inv-loop μ-loop
-sub-copy-row c = omega (arith, within c)
+sub-build-row : tie.Need-sub-build-row Inv-loop μ-loop
+sub-build-row c = omega (arith, within c)
 
-part-copy-row-start : tie.Need-part-copy-row-start Inv-loop μ-loop
-part-copy-row-start c = omega (arith, within c)
+part-build-row-start : tie.Need-part-build-row-start Inv-loop μ-loop
+part-build-row-start c = omega (arith, within c)
 
-part-copy-row-end : tie.Need-part-copy-row-end Inv-loop μ-loop
-part-copy-row-end c = omega (arith, within c)
+part-build-row-end : tie.Need-part-build-row-end Inv-loop μ-loop
+part-build-row-end c = omega (arith, within c)
 
-mul-copy-row-2 : tie.Need-mul-copy-row-2 Inv-loop μ-loop
-mul-copy-row-2 c = omega (arith, within (c .before))
+mul-build-row-2 : tie.Need-mul-build-row-2 Inv-loop μ-loop
+mul-build-row-2 c = omega (arith, within (c .before))
 
-sub-copy-row-2 : tie.Need-sub-copy-row-2 Inv-loop μ-loop
-sub-copy-row-2 c = omega (arith, within (c .before))
+sub-build-row-2 : tie.Need-sub-build-row-2 Inv-loop μ-loop
+sub-build-row-2 c = omega (arith, within (c .before))
 
-part-copy-row-start-2 : tie.Need-part-copy-row-start-2 Inv-loop μ-loop
-part-copy-row-start-2 c = omega (arith, within (c .before))
+part-build-row-start-2 : tie.Need-part-build-row-start-2 Inv-loop μ-loop
+part-build-row-start-2 c = omega (arith, within (c .before))
 
-part-copy-row-end-2 : tie.Need-part-copy-row-end-2 Inv-loop μ-loop
-part-copy-row-end-2 c = omega (arith, within (c .before))
+part-build-row-end-2 : tie.Need-part-build-row-end-2 Inv-loop μ-loop
+part-build-row-end-2 c = omega (arith, within (c .before))
 
-copy-row-requires : tie.Need-copy-row-requires Inv-loop μ-loop
-copy-row-requires c κs =
+build-row-requires : tie.Need-build-row-requires Inv-loop μ-loop
+build-row-requires c κs =
     let w = within (c .before .before) in
     rw (stretch-is _ _ _ _ _ (c .before .before .before .loop .inv .0), stretch-size _ _ _ _ (c .before .before .before .before .before .before .pre .0) _ (c .before .before .loop-test .taken), tail-lent (c .before .before .before .loop .first) (c .before .before .before .loop .entries), length-drop)
     (omega (arith, w))
@@ -86,7 +86,7 @@ loop-again c =
     let inv = c .before .before .before .before .before .before .loop .inv in (
       rw (add-one, suc-mul, inv .0),
       one-joined _ _ _ _ (stretch-size _ _ _ _ (c .before .before .before .before .before .before .before .before .before .pre .0)) _ _ _ _ (inv .1) (c .before .before .before .before .before .loop-test .taken) refl _
-          (rw (stretch-is _ _ _ _ _ (inv .0)) at (c .before .before .copy-row .ensures))
+          (rw (stretch-is _ _ _ _ _ (inv .0)) at (c .before .before .build-row .ensures))
           (c .before .entries .given .1),
     )
 
@@ -96,23 +96,23 @@ same-length c = search needs
 returns : tie.Need-returns Inv-loop μ-loop
 returns c = all-joined _ _ _ _ (stretch-size _ _ _ _ (c .before .before .before .before .pre .0)) _ _ _ _ (c .before .loop .inv .1) (c .loop-test .left)
 
-pub copy-rows-spec : {M : Type 1} → statement M
-copy-rows-spec =
+pub build-rows-spec : {M : Type 1} → statement M
+build-rows-spec =
     tie.close
     (tie.spec
     Inv-loop
     μ-loop
     loop-holds
     add-end
-    mul-copy-row
-    sub-copy-row
-    part-copy-row-start
-    part-copy-row-end
-    mul-copy-row-2
-    sub-copy-row-2
-    part-copy-row-start-2
-    part-copy-row-end-2
-    copy-row-requires
+    mul-build-row
+    sub-build-row
+    part-build-row-start
+    part-build-row-end
+    mul-build-row-2
+    sub-build-row-2
+    part-build-row-start-2
+    part-build-row-end-2
+    build-row-requires
     add-source
     add-first
     add-speed

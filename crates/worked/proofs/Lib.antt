@@ -1,0 +1,3 @@
+pub mod Reckoned
+pub mod Data
+pub mod Choices

@@ -1,0 +1,47 @@
+-- The data files of examples/, byte by byte, a line for each field and each row.
+use Prim.Native.Nat.{ℕ}
+use mathlib.Core.List.{List, [], _∷_}
+
+-- standard.axle, document 01's example of "The map program": SR at ratio 3.000, speeds 100 and 200, torques 0 and 1,000
+abbrev pub standardData : List ℕ
+standardData =
+    1 ∷ 0 ∷ 1 ∷ 1
+    ∷ 2 ∷ 0 ∷ 1 ∷ 1
+    ∷ 3 ∷ 0 ∷ 2 ∷ 0x0B ∷ 0xB8
+    ∷ 4 ∷ 0 ∷ 4 ∷ 0 ∷ 0x64 ∷ 0 ∷ 0xC8
+    ∷ 5 ∷ 0 ∷ 4 ∷ 0 ∷ 0 ∷ 3 ∷ 0xE8
+    ∷ []
+
+-- measured.axle: ratio 3.000, speeds 100 and 200, torques 1,000 and 3,000; c 100 and k 1,000 at both sensors, all other influences 0; N 10,000 in, 40,000 out
+abbrev pub measuredData : List ℕ
+measuredData =
+    1 ∷ 0 ∷ 1 ∷ 2
+    ∷ 2 ∷ 0 ∷ 1 ∷ 1
+    ∷ 3 ∷ 0 ∷ 2 ∷ 0x0B ∷ 0xB8
+    ∷ 4 ∷ 0 ∷ 4 ∷ 0 ∷ 0x64 ∷ 0 ∷ 0xC8
+    ∷ 5 ∷ 0 ∷ 4 ∷ 3 ∷ 0xE8 ∷ 0x0B ∷ 0xB8
+    ∷ 6 ∷ 0 ∷ 0x12 ∷ 0x27 ∷ 0x10 ∷ 0 ∷ 0 ∷ 0 ∷ 0 ∷ 0 ∷ 0x64 ∷ 3 ∷ 0xE8 ∷ 0 ∷ 0 ∷ 0 ∷ 0 ∷ 0 ∷ 0 ∷ 0 ∷ 0x0A
+    ∷ 7 ∷ 0 ∷ 0x12 ∷ 0x9C ∷ 0x40 ∷ 0 ∷ 0 ∷ 0 ∷ 0 ∷ 0 ∷ 0x64 ∷ 3 ∷ 0xE8 ∷ 0 ∷ 0 ∷ 0 ∷ 0 ∷ 0 ∷ 0 ∷ 0 ∷ 0x0A
+    ∷ 8 ∷ 0 ∷ 0x20
+    ∷ 0 ∷ 0 ∷ 0x84 ∷ 0xD0 ∷ 0 ∷ 1 ∷ 0x86 ∷ 0xA0
+    ∷ 0 ∷ 1 ∷ 0xAD ∷ 0xB0 ∷ 0 ∷ 4 ∷ 0x93 ∷ 0xE0
+    ∷ 0 ∷ 0 ∷ 0x84 ∷ 0xD0 ∷ 0 ∷ 1 ∷ 0x86 ∷ 0xA0
+    ∷ 0 ∷ 1 ∷ 0xAD ∷ 0xB0 ∷ 0 ∷ 4 ∷ 0x93 ∷ 0xE0
+    ∷ []
+
+-- refused.axle: the same with an input torque of 999.99 Nm in the second row, whose loss is under zero
+abbrev pub refusedData : List ℕ
+refusedData =
+    1 ∷ 0 ∷ 1 ∷ 2
+    ∷ 2 ∷ 0 ∷ 1 ∷ 1
+    ∷ 3 ∷ 0 ∷ 2 ∷ 0x0B ∷ 0xB8
+    ∷ 4 ∷ 0 ∷ 4 ∷ 0 ∷ 0x64 ∷ 0 ∷ 0xC8
+    ∷ 5 ∷ 0 ∷ 4 ∷ 3 ∷ 0xE8 ∷ 0x0B ∷ 0xB8
+    ∷ 6 ∷ 0 ∷ 0x12 ∷ 0x27 ∷ 0x10 ∷ 0 ∷ 0 ∷ 0 ∷ 0 ∷ 0 ∷ 0x64 ∷ 3 ∷ 0xE8 ∷ 0 ∷ 0 ∷ 0 ∷ 0 ∷ 0 ∷ 0 ∷ 0 ∷ 0x0A
+    ∷ 7 ∷ 0 ∷ 0x12 ∷ 0x9C ∷ 0x40 ∷ 0 ∷ 0 ∷ 0 ∷ 0 ∷ 0 ∷ 0x64 ∷ 3 ∷ 0xE8 ∷ 0 ∷ 0 ∷ 0 ∷ 0 ∷ 0 ∷ 0 ∷ 0 ∷ 0x0A
+    ∷ 8 ∷ 0 ∷ 0x20
+    ∷ 0 ∷ 0 ∷ 0x84 ∷ 0xD0 ∷ 0 ∷ 1 ∷ 0x86 ∷ 0xA0
+    ∷ 0 ∷ 1 ∷ 0x86 ∷ 0x9F ∷ 0 ∷ 4 ∷ 0x93 ∷ 0xE0
+    ∷ 0 ∷ 0 ∷ 0x84 ∷ 0xD0 ∷ 0 ∷ 1 ∷ 0x86 ∷ 0xA0
+    ∷ 0 ∷ 1 ∷ 0x86 ∷ 0x9F ∷ 0 ∷ 4 ∷ 0x93 ∷ 0xE0
+    ∷ []
