@@ -22,7 +22,6 @@ module _ (ns : List ℕ) (i : ℕ) (range : Range) (b : Bool) (r : range ≡ get
   unfolding sensorNumber
   number-outside t = rw (← r, ← e, t)
 
--- a test that refuses gives its own place
 -- the index of a number out of its range is one of the nine
 pub index-below : (ns : List ℕ) (i : ℕ) → refuse 4 i ≡ sensorNumbers ns → i < 9
 unfolding sensorNumbers sensorNumber
