@@ -5,13 +5,13 @@ use mathlib.Core.List.{List}
 use mathlib.Core.Logic.{⊎-elim}
 use native.Mathlib.Omega.{arith}
 use lib.ListN.{getD}
-use Rattle.lookup.specs.Cell.{Point, Cell, Has}
-use Rattle.lookup.proofs.Axes.{Axes, rise-le}
+use Rattle.cell.specs.Cell.{Point, Cell, Has}
+use Rattle.lookup.proofs.Axes.{RisingAxes, rise-le}
 use Rattle.accuracy.specs.Claim.{FromFirstTorque, BelowFirstTorque}
 
 -- ---- a cell that has a point
 
-module _ {speeds torques : List ℕ} {p : Point} {k : Cell} (rules : Axes speeds torques) (has : Has speeds torques p k) where
+module _ {speeds torques : List ℕ} {p : Point} {k : Cell} (rules : RisingAxes speeds torques) (has : Has speeds torques p k) where
   -- The neighbours' differences are above 0. So a share never meets a denominator of 0, and y - x is never cut off.
   pub speeds-apart : 10 * getD speeds (k .speed) 0 < 10 * getD speeds (k .speed + 1) 0
   speeds-apart = omega (arith, rules .speeds .rises (k .speed) (has .speed-in))

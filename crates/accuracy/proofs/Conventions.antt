@@ -7,8 +7,9 @@ use borrow.Author.Tests.{le-ltb}
 use lib.ListN.{length, getD}
 use Rattle.grid.proofs.Map.{map-facts}
 use Rattle.component.specs.Component.{Component, Kind, standard, measured}
-use Rattle.component.specs.declared.sensor.Sensor.{Sensor}
-use Rattle.layout.specs.Rules.{AreBytes, KindRules, SensorRules}
+use Rattle.sensor.specs.Sensor.{SensorRules}
+use Rattle.sensor.specs.declared.Sensor.{Sensor}
+use Rattle.layout.specs.Rules.{AreBytes, KindRules}
 use Rattle.loss.specs.Measured.{temperatureOnSensitivity, temperatureOnZero, calibration, parasiticLoads}
 use Rattle.loss.specs.Standard.{lineOf}
 use Rattle.loss.proofs.Lines.{line-of-usable}
@@ -17,7 +18,7 @@ use Rattle.loss.proofs.Values.{standardNumerator, standard-loss-is}
 use Rattle.map.specs.Build.{points, pointIndex}
 use Rattle.map.specs.Answers.{Builds}
 use Rattle.map.specs.declared.Built.{Built}
-use Rattle.map.specs.declared.Answer.the-variants.{Accepted}
+use Rattle.refusal.specs.declared.Answer.the-variants.{Accepted}
 use Rattle.grid.proofs.Points.{row-within}
 use Rattle.map.specs.Acceptance.{PointRules}
 use Rattle.map.proofs.Acceptance.{rows-right}

@@ -6,7 +6,6 @@ use mathlib.Core.List.{List}
 use mathlib.Core.Logic.{_⊎_, inl, inr}
 use native.Mathlib.Omega.{arith}
 use native.Mathlib.Decide.{decLe}
-use lib.IntN.{ℤ}
 use lib.ListN.{length, getD}
 use Rattle.refusal.specs.Outcome.{accepted}
 use Rattle.refusal.proofs.Steps.{placed-accepted}
@@ -14,41 +13,25 @@ use Rattle.refusal.proofs.First.{first-all}
 use Rattle.grid.specs.Map.{speedsOf, torquesOf, validMap}
 use Rattle.grid.specs.declared.Grid.{Grid}
 use Rattle.component.specs.Component.{Component, Kind, standard, measured}
-use Rattle.component.specs.declared.sensor.Sensor.{Sensor}
-use Rattle.layout.specs.Rules.{AreBytes, Rules, KindRules, SensorRules}
-use Rattle.loss.specs.Measured.{InRange}
+use Rattle.layout.specs.Rules.{AreBytes, Rules, KindRules}
 use Rattle.loss.specs.Exact.{IsNumber, EntryAccurate}
 use Rattle.loss.proofs.Accuracy.{standard-is-number, standard-entry-accurate, measured-is-number, measured-entry-accurate, wider, fractions-near}
 use Rattle.loss.proofs.Rows.{one-output-in-range}
 use Rattle.map.specs.Build.{entry, entryOfKind, check, checkOfKind, speedCheck, rowsCheck}
 use Rattle.map.specs.Answers.{Builds}
 use Rattle.map.specs.declared.Built.{Built}
-use Rattle.map.specs.declared.Answer.the-variants.{Accepted}
-use Rattle.map.proofs.Acceptance.{row-right}
+use Rattle.refusal.specs.declared.Answer.the-variants.{Accepted}
+use Rattle.rows.proofs.Acceptance.{row-right}
 use Rattle.map.proofs.Valid.{from-data, data-rules, entry-there, is-map}
-use Rattle.lookup.specs.Cell.{Point, Within, Cell, Has, entryAt}
+use Rattle.cell.specs.Cell.{Point, Within, Cell, Has, entryAt}
 use Rattle.lookup.specs.Loss.{cellOf, lossAt, lossAnswer}
-use Rattle.lookup.proofs.Axes.{Axes, map-axes, cell-has}
+use Rattle.lookup.proofs.Axes.{RisingAxes, map-axes, cell-has}
 use Rattle.lookup.proofs.Queries.{loss-rounds, loss-answered}
-use Rattle.accuracy.specs.Claim.{EntriesAccurate, FromFirstTorque, BelowFirstTorque, OneStretch, Limits}
-use Rattle.accuracy.specs.Demand.{exactOfKind, exactAt, Held, Answered, Accurate, Demand3}
+use Rattle.accuracy.specs.Claim.{EntriesAccurate, FromFirstTorque, BelowFirstTorque, OneStretch, Held, figuresOf}
+use Rattle.accuracy.specs.Demand.{exactOfKind, exactAt, Answered, Accurate, Demand3}
 use Rattle.accuracy.proofs.Limits.{limits}
 
 -- ---- an entry
-
--- a sensor that keeps the rules of tags 6 and 7 is in the ranges that the loss needs
-sensor-in-range : (s : Sensor) → SensorRules s → InRange s
-sensor-in-range s r = record {
-  nominal = r .nominal .1;
-  sensitivity = r .sensitivity .1;
-  zero = r .zero .1;
-  calibration = r .calibration .1;
-  least-advancement = r .advancement .0;
-  parasitic = r .parasitic .1;
-  share = r .share .1;
-  difference = r .difference .1;
-  least-span = r .span .0;
-}
 
 -- how far an entry may be above its exact value, in hundredths of Nm
 pub excessOf : Kind → ℕ
@@ -71,7 +54,7 @@ unfolding exactOfKind checkOfKind entryOfKind excessOf
 kind-accurate c i j standard r k e = standard-entry-accurate (c .line) (c .ratio) (getD (c .torques) j 0)
 kind-accurate c i j (measured input output rows) r k e =
     measured-entry-accurate _
-    (one-output-in-range (r .ratio .1) (sensor-in-range input (k .0)) (sensor-in-range output (k .1)) (row-right _ _ _ (placed-accepted _ _ tt e) .loss))
+    (one-output-in-range (r .ratio .1) (k .0) (k .1) (row-right _ _ _ (placed-accepted _ _ tt e) .loss))
 
 pub exact-number : (c : Component) (i j : ℕ) → IsNumber (exactAt c i j)
 unfolding exactAt
@@ -97,7 +80,7 @@ one-stretch torques p = record { one = go (decLe (100 * getD torques 0 0) (p .to
 -- ---- the answers over a map that has these axes, and entries that are so near
 
 module _ (c : Component) (grid : Grid) (entries : List ℕ) (valid : validMap grid entries ≡ true) (s : speedsOf (grid .speeds) ≡ c .speeds) (t : torquesOf (grid .torques) ≡ c .torques) where
-  axes : Axes (c .speeds) (c .torques)
+  axes : RisingAxes (c .speeds) (c .torques)
   axes = rw (s, t) at (map-axes grid entries valid)
 
   loss-there : (p : Point) → Within (c .speeds) (c .torques) p → lossAnswer grid entries p ≡ accepted (lossAt (c .speeds) (c .torques) entries p)
@@ -105,18 +88,9 @@ module _ (c : Component) (grid : Grid) (entries : List ℕ) (valid : validMap gr
 
   pub answer-limits : (excess : ℕ) → EntriesAccurate excess (c .speeds) (c .torques) (entryAt (length (c .torques)) entries) (exactAt c)
       → (p : Point) → Within (c .speeds) (c .torques) p → (k : Cell) → Has (c .speeds) (c .torques) p k
-      → Limits excess (c .speeds) (c .torques) (entryAt (length (c .torques)) entries) (exactAt c) p k (lossAt (c .speeds) (c .torques) entries p)
+      → Held (figuresOf excess) (c .speeds) (c .torques) (entryAt (length (c .torques)) entries) (exactAt c) p k (lossAt (c .speeds) (c .torques) entries p)
   answer-limits excess near p w k has =
       limits (entryAt (length (c .torques)) entries) axes near has (loss-rounds (c .speeds) (c .torques) entries axes p w k has)
-
-  held-of : (p : Point) (k : Cell) (z : ℤ) → Limits 2 (c .speeds) (c .torques) (entryAt (length (c .torques)) entries) (exactAt c) p k z → Held c entries p k z
-  held-of p k z h = record {
-    named = h .named;
-    never-below = h .low;
-    less-than-3-above = h .high;
-    less-than-2-below = h .low-below;
-    less-than-5-above = h .high-below;
-  }
 
   answered-at : EntriesAccurate 2 (c .speeds) (c .torques) (entryAt (length (c .torques)) entries) (exactAt c)
       → (p : Point) → Within (c .speeds) (c .torques) p → Answered c grid entries p
@@ -125,7 +99,7 @@ module _ (c : Component) (grid : Grid) (entries : List ℕ) (valid : validMap gr
     answered = loss-there p w;
     some-cell = (cellOf (c .speeds) (c .torques) p, cell-has (c .speeds) (c .torques) axes p w);
     one-stretch = one-stretch (c .torques) p;
-    held = λ k has. held-of p k _ (answer-limits 2 near p w k has);
+    held = answer-limits 2 near p w;
   }
 
 -- ---- from the bytes

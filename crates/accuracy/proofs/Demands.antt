@@ -14,12 +14,13 @@ use Rattle.component.specs.Component.{Component, Kind, standard, measured}
 use Rattle.layout.specs.Rules.{AreBytes}
 use Rattle.layout.specs.Faults.{HeadFault, head-incomplete, other-tag, none-left, other-length, body-incomplete, FieldFault, in-head, in-body, NumberFault, AxisFault, TorqueFault, numbers-wrong, step-wrong, SensorFault}
 use Rattle.layout.specs.Acceptance.{Fault, in-kind, in-line, in-ratio, in-speeds, in-torques, in-input, in-output, in-rows, after-torques, after-rows}
-use Rattle.map.specs.Rows.{Bench, Torques}
+use Rattle.rows.specs.Rows.{Bench, Torques}
 use Rattle.map.specs.Build.{LossMap, points, build}
-use Rattle.map.specs.Acceptance.{RowFault, input-above, output-above, off-axis, negative, too-large, PointFault, Reason, in-data, too-few, in-row}
+use Rattle.map.specs.Acceptance.{PointFault, Reason, in-data, too-few, in-row}
+use Rattle.rows.specs.Acceptance.{RowFault, input-above, output-above, off-axis, negative, too-large}
 use Rattle.map.specs.Answers.{Builds}
 use Rattle.map.specs.declared.Built.{Built}
-use Rattle.map.specs.declared.Answer.the-variants.{Refused}
+use Rattle.refusal.specs.declared.Answer.the-variants.{Refused}
 use Rattle.map.proofs.Acceptance.{build-refused}
 
 -- ---- the refusals of a build

@@ -4,6 +4,5 @@ pub mod Weights
 pub mod Sums
 pub mod Limits
 pub mod Demand
-pub mod Asking
 pub mod Demands
 pub mod Conventions

@@ -8,11 +8,11 @@ use lib.IntN.{ℤ}
 use Rattle.arith.specs.Fraction.{Fraction, whole, signed, _≼_, RoundsUp}
 use Rattle.arith.proofs.Fractions.{is-whole, is-plus-whole, at-most, at-most-of, below, below-of}
 use Rattle.loss.specs.Exact.{Cut, EntryAccurate}
-use Rattle.lookup.specs.Cell.{Point, Cell, Has, Side, lower, upper, Corners, index, corners}
-use Rattle.lookup.proofs.Axes.{Axes}
-use Rattle.accuracy.specs.Claim.{EntriesAccurate, exactCorner, ChosenBelow, ChosenAbove, entrySum, FromFirstTorque, BelowFirstTorque, Limits}
+use Rattle.cell.specs.Cell.{Point, Cell, Has, Side, lower, upper, Corners, index, corners}
+use Rattle.lookup.proofs.Axes.{RisingAxes}
+use Rattle.accuracy.specs.Claim.{EntriesAccurate, exactCorner, ChosenBelow, ChosenAbove, entrySum, FromFirstTorque, BelowFirstTorque, Held, figuresOf}
 use Rattle.accuracy.proofs.Weights.{total, area, weightFor, weightAgainst, area-positive, positive-weight, negative-weight, total-for, none-against, some-against, most-against, none-against-at}
-use Rattle.lookup.proofs.Rounding.{up, down, is-signed, Rounded, rounded-of}
+use Rattle.cell.proofs.Rounding.{up, down, is-signed, Rounded, rounded-of}
 use Rattle.accuracy.proofs.Sums.{total-at-most, total-times, commonDen, common-positive, plusOver, minusOver, is-over-common, sumFor, sum-is, entries-is}
 
 -- ---- one corner: w counts for its weight and u against it, e is its entry, and its fraction is (a - b) / d
@@ -90,7 +90,7 @@ at-most-of-times : (A u n largest P : ℕ) → P ≤ largest * A → u * A < P +
 at-most-of-times A u n largest P i j = let s : u < largest + n + 1 = lt-of-mul-lt-mul-right A (omega arith) in omega arith
 
 module _ {speeds torques : List ℕ} {p : Point} {k : Cell} {z : ℤ} (entry : ℕ → ℕ → ℕ)
-    (rules : Axes speeds torques) (has : Has speeds torques p k) (rounds : RoundsUp (entrySum speeds torques entry p k) z) where
+    (rules : RisingAxes speeds torques) (has : Has speeds torques p k) (rounds : RoundsUp (entrySum speeds torques entry p k) z) where
   rounded : Rounded (total (λ s t. weightFor speeds torques p k s t * corners entry k s t)) (total (λ s t. weightAgainst speeds torques p k s t * corners entry k s t)) (area speeds torques k) z
   rounded = rounded-of z (entries-is rules has entry) rounds
 
@@ -161,25 +161,25 @@ module _ {speeds torques : List ℕ} {p : Point} {k : Cell} {z : ℤ} (entry : �
       excess-for : excess * (total (weightFor speeds torques p k) * commonDen f) ≡ excess * (area speeds torques k * commonDen f) + excess * (total (weightAgainst speeds torques p k) * commonDen f)
       excess-for = omega (arith, ap (λ (n : ℕ). excess * (n * commonDen f)) (total-for rules has))
 
-    kept-limits : Limits excess speeds torques entry exact p k z
+    kept-limits : Held (figuresOf excess) speeds torques entry exact p k z
     kept-limits = record {
       named = rounds;
-      low = λ h f chosen.
+      never-below = λ h f chosen.
           at-most (sum-is rules has f _ _ _ (is-over-common f)) (is-signed z)
           (omega (arith, low-sum f chosen, excess-none f h));
-      high = λ h f chosen.
+      not-far-above = λ h f chosen.
           below (is-signed z) (is-plus-whole _ (sum-is rules has f _ _ _ (is-over-common f)))
           (omega (arith, high-sum f chosen, excess-for f, excess-none f h));
-      low-below = λ h f chosen.
+      not-far-below-first = λ h f chosen.
           below (sum-is rules has f _ _ _ (is-over-common f)) (is-plus-whole _ (is-signed z))
           (omega (arith, low-sum f chosen, excess-once f h, some-against rules has h));
-      high-below = λ h f chosen.
+      not-far-above-first = λ h f chosen.
           below (is-signed z) (is-plus-whole _ (sum-is rules has f _ _ _ (is-over-common f)))
           (omega (arith, high-sum f chosen, excess-for f, excess-once f h));
     }
 
 -- An answer that is the cell's sum of accurate entries, rounded up once, keeps all its limits.
 pub limits : {excess : ℕ} {speeds torques : List ℕ} {p : Point} {k : Cell} {z : ℤ} (entry : ℕ → ℕ → ℕ) {exact : ℕ → ℕ → Cut} →
-    Axes speeds torques → EntriesAccurate excess speeds torques entry exact → Has speeds torques p k → RoundsUp (entrySum speeds torques entry p k) z →
-    Limits excess speeds torques entry exact p k z
+    RisingAxes speeds torques → EntriesAccurate excess speeds torques entry exact → Has speeds torques p k → RoundsUp (entrySum speeds torques entry p k) z →
+    Held (figuresOf excess) speeds torques entry exact p k z
 limits entry rules accurate has rounds = kept-limits entry rules has rounds accurate

@@ -6,8 +6,8 @@ use native.Mathlib.Omega.{arith}
 use native.Mathlib.Nat.{mul-pos}
 use Rattle.arith.specs.Fraction.{Fraction, whole, _⊗_}
 use Rattle.arith.proofs.Fractions.{Is, is-itself, is-whole, is-also, is-expanded, is-sum, is-product}
-use Rattle.lookup.specs.Cell.{Point, Cell, Has, Side, lower, upper, Corners, weight, sum, corners}
-use Rattle.lookup.proofs.Axes.{Axes}
+use Rattle.cell.specs.Cell.{Point, Cell, Has, Side, lower, upper, Corners, weight, sum, corners}
+use Rattle.lookup.proofs.Axes.{RisingAxes}
 use Rattle.accuracy.specs.Claim.{entrySum}
 use Rattle.accuracy.proofs.Weights.{total, area, weightFor, weightAgainst, area-positive, weight-is}
 
@@ -58,7 +58,7 @@ is-over-common f s t = is-expanded (otherDens f s t) (commonDen f) (common-posit
 unfoldable pub sumFor : (speeds torques : List ℕ) → Point → Cell → (p m : Corners ℕ) → ℕ
 sumFor speeds torques q k p m = total (λ s t. weightFor speeds torques q k s t * p s t + weightAgainst speeds torques q k s t * m s t)
 
-module _ {speeds torques : List ℕ} {p : Point} {k : Cell} (rules : Axes speeds torques) (has : Has speeds torques p k) where
+module _ {speeds torques : List ℕ} {p : Point} {k : Cell} (rules : RisingAxes speeds torques) (has : Has speeds torques p k) where
   -- of any four fractions that have one denominator
   pub sum-is : (f : Corners Fraction) (a b : Corners ℕ) (d : ℕ) → ((s t : Side) → Is (f s t) (a s t) (b s t) d) →
       Is (sum speeds torques p k f) (sumFor speeds torques p k a b) (sumFor speeds torques p k b a) (area speeds torques k * d)

@@ -8,12 +8,12 @@ use native.Mathlib.Decide.{decLe}
 use native.Mathlib.Nat.{mul-pos, mul-le-mul-left}
 use lib.ListN.{getD}
 use lib.IntN.{negsuc}
-use Rattle.arith.specs.Fraction.{_less_over_, whole, signed, _⊕_, _⊗_, _≼_, _≺_}
+use Rattle.arith.specs.Fraction.{_less_over_, whole, signed, _⊕_, _⊗_, _≼_, _≺_, Same}
 use Rattle.arith.proofs.Fractions.{Is, is-whole, is-signed-negsuc, is-also, is-sum, is-product, at-most, below}
-use Rattle.lookup.specs.Cell.{Point, Cell, Has, Side, lower, upper, Corners, share, weight}
-use Rattle.lookup.proofs.Axes.{Axes}
+use Rattle.cell.specs.Cell.{Point, Cell, Has, Side, lower, upper, Corners, share, weight}
+use Rattle.lookup.proofs.Axes.{RisingAxes}
 use Rattle.lookup.proofs.Weights.{for, against, is-share}
-use Rattle.accuracy.specs.Claim.{FromFirstTorque, BelowFirstTorque, SameValue}
+use Rattle.accuracy.specs.Claim.{FromFirstTorque, BelowFirstTorque}
 use Rattle.accuracy.proofs.Axes.{speeds-apart, torques-apart, speed-difference, torque-difference, cell-from, cell-first}
 
 -- between numbers that are apart, a share's denominator is their difference, and not the 1 that stands for a 0
@@ -68,7 +68,7 @@ weightFor speeds torques p k s t = speedFor speeds p k s * torqueFor torques p k
 unfoldable pub weightAgainst : (speeds torques : List ℕ) → Point → Cell → Corners ℕ
 weightAgainst speeds torques p k s t = speedFor speeds p k s * torqueAgainst torques p k t
 
-module _ {speeds torques : List ℕ} {p : Point} {k : Cell} (rules : Axes speeds torques) (has : Has speeds torques p k) where
+module _ {speeds torques : List ℕ} {p : Point} {k : Cell} (rules : RisingAxes speeds torques) (has : Has speeds torques p k) where
   pub area-positive : 0 < area speeds torques k
   unfolding area
   area-positive = mul-pos (speed-difference rules has) (torque-difference rules has)
@@ -157,10 +157,10 @@ module _ {speeds torques : List ℕ} {p : Point} {k : Cell} (rules : Axes speeds
 
   -- ---- what this says of the weights as fractions
 
-  pub weights-add-to-one : SameValue (weight speeds torques p k lower lower ⊕ weight speeds torques p k lower upper ⊕ weight speeds torques p k upper lower ⊕ weight speeds torques p k upper upper) (whole 1)
+  pub weights-add-to-one : Same (weight speeds torques p k lower lower ⊕ weight speeds torques p k lower upper ⊕ weight speeds torques p k upper lower ⊕ weight speeds torques p k upper upper) (whole 1)
   weights-add-to-one =
       let i = is-sum (is-sum (is-sum (weight-is lower lower) (weight-is lower upper)) (weight-is upper lower)) (weight-is upper upper) in
-      record { at-most = at-most i (is-whole 1) (omega (arith, total-for)); at-least = at-most (is-whole 1) i (omega (arith, total-for)) }
+      (at-most i (is-whole 1) (omega (arith, total-for)), at-most (is-whole 1) i (omega (arith, total-for)))
 
   -- one of four
   at-most-total : (f : Corners ℕ) (s t : Side) → f s t ≤ total f

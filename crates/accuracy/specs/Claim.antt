@@ -7,7 +7,7 @@ use lib.ListN.{length, getD}
 use lib.IntN.{ℤ}
 use Rattle.arith.specs.Fraction.{Fraction, whole, signed, _⊕_, _≼_, _≺_, RoundsUp}
 use Rattle.loss.specs.Exact.{Cut, EntryAccurate}
-use Rattle.lookup.specs.Cell.{Point, Cell, Side, Corners, weight, sum, index, corners}
+use Rattle.cell.specs.Cell.{Point, Cell, Side, Corners, weight, sum, index, corners}
 
 -- ---- an entry
 
@@ -50,18 +50,27 @@ pub record OneStretch (torques : List ℕ) (p : Point) : Type 0 where
   pub one : FromFirstTorque torques p ⊎ BelowFirstTorque torques p
   pub not-both : FromFirstTorque torques p → BelowFirstTorque torques p → ⊥
 
--- The answer z "is the one that 'Loss at a point' names". "For every choice of fractions .. that answer keeps its lower limit against their weighted sum; the upper limit likewise with the sides turned."
--- The limits are 0 and excess + 1 from the first torque upwards, and excess and 2 * excess + 1 below it. With an excess of 2 that is 0 and 3, 2 and 5.
-pub record Limits (excess : ℕ) (speeds torques : List ℕ) (entry : ℕ → ℕ → ℕ) (exact : ℕ → ℕ → Cut) (p : Point) (k : Cell) (z : ℤ) : Type 0 where
+-- how far an answer may be from the exact loss, in hundredths of Nm; from the first torque upwards it is never below
+pub record Figures : Type 0 where
+  -- from the first torque upwards: less than this above
+  pub above : ℕ
+  -- below the first torque: less than this below, and less than this above
+  pub below-first : ℕ
+  pub above-first : ℕ
+
+-- The answer z "is the one that 'Loss at a point' names", and it keeps its limits against every choice of fractions on the sides of the exact corners.
+-- Of any speeds, torques, entries and exact entries.
+pub record Held (figures : Figures) (speeds torques : List ℕ) (entry : ℕ → ℕ → ℕ) (exact : ℕ → ℕ → Cut) (p : Point) (k : Cell) (z : ℤ) : Type 0 where
   pub named : RoundsUp (entrySum speeds torques entry p k) z
-  pub low : FromFirstTorque torques p → (f : Corners Fraction) → ChosenBelow speeds torques exact p k f → sum speeds torques p k f ≼ signed z
-  pub high : FromFirstTorque torques p → (f : Corners Fraction) → ChosenAbove speeds torques exact p k f → signed z ≺ sum speeds torques p k f ⊕ whole (excess + 1)
-  pub low-below : BelowFirstTorque torques p → (f : Corners Fraction) → ChosenBelow speeds torques exact p k f → sum speeds torques p k f ≺ signed z ⊕ whole excess
-  pub high-below : BelowFirstTorque torques p → (f : Corners Fraction) → ChosenAbove speeds torques exact p k f → signed z ≺ sum speeds torques p k f ⊕ whole (2 * excess + 1)
+  pub never-below : FromFirstTorque torques p → (f : Corners Fraction) → ChosenBelow speeds torques exact p k f
+      → sum speeds torques p k f ≼ signed z
+  pub not-far-above : FromFirstTorque torques p → (f : Corners Fraction) → ChosenAbove speeds torques exact p k f
+      → signed z ≺ sum speeds torques p k f ⊕ whole (figures .above)
+  pub not-far-below-first : BelowFirstTorque torques p → (f : Corners Fraction) → ChosenBelow speeds torques exact p k f
+      → sum speeds torques p k f ≺ signed z ⊕ whole (figures .below-first)
+  pub not-far-above-first : BelowFirstTorque torques p → (f : Corners Fraction) → ChosenAbove speeds torques exact p k f
+      → signed z ≺ sum speeds torques p k f ⊕ whole (figures .above-first)
 
--- ---- "On a grid line either cell gives the same sum."
-
--- two fractions of one value
-pub record SameValue (x y : Fraction) : Type 0 where
-  pub at-most : x ≼ y
-  pub at-least : y ≼ x
+-- the figures that entries with this excess give: their own rounding is once more 1
+abbrev pub figuresOf : (excess : ℕ) → Figures
+figuresOf excess = record { above = excess + 1; below-first = excess; above-first = 2 * excess + 1 }

@@ -5,13 +5,13 @@ use mathlib.Core.Bool.{false}
 use mathlib.Core.List.{List}
 use lib.ListN.{length, getD}
 use Rattle.component.specs.Component.{Component, Kind, standard, measured}
-use Rattle.component.specs.declared.sensor.Sensor.{Sensor}
+use Rattle.sensor.specs.declared.Sensor.{Sensor}
 use Rattle.loss.specs.Rounding.{underZero}
 use Rattle.loss.specs.Standard.{lineOf, standardLoss}
 use Rattle.loss.specs.Measured.{lossIsUnderZero, temperatureOnSensitivity, temperatureOnZero, calibration, parasiticLoads}
-use Rattle.map.specs.Rows.{rowAt}
+use Rattle.rows.specs.Rows.{rowAt}
 use Rattle.map.specs.Build.{points, pointIndex}
-use Rattle.lookup.specs.Cell.{Point, Cell, Has}
+use Rattle.cell.specs.Cell.{Point, Cell, Has}
 
 -- no part of a sensor's uncertainty is over 0
 pub record PartsDefined (sensor : Sensor) : Type 0 where

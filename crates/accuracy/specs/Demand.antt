@@ -4,21 +4,20 @@ use mathlib.Core.Path.{_≡_}
 use mathlib.Core.List.{List}
 use lib.IntN.{ℤ}
 use lib.ListN.{length, getD}
-use Rattle.arith.specs.Fraction.{Fraction, whole, signed, _⊕_, _≼_, _≺_, RoundsUp}
 use Rattle.refusal.specs.Outcome.{accepted}
 use Rattle.grid.specs.Map.{speedsOf, torquesOf}
 use Rattle.grid.specs.declared.Grid.{Grid}
 use Rattle.component.specs.Component.{Component, Kind, standard, measured, component}
 use Rattle.layout.specs.Rules.{AreBytes}
 use Rattle.loss.specs.Exact.{Cut, IsNumber, Near, EntryAccurate, cut, exactStandard, exactMeasured}
-use Rattle.map.specs.Rows.{rowAt, rowOf}
+use Rattle.rows.specs.Rows.{rowAt, rowOf}
 use Rattle.map.specs.Build.{pointIndex}
 use Rattle.map.specs.Answers.{Builds}
 use Rattle.map.specs.declared.Built.{Built}
-use Rattle.map.specs.declared.Answer.the-variants.{Accepted}
-use Rattle.lookup.specs.Cell.{Point, Within, Cell, Has, Corners, sum, entryAt}
+use Rattle.refusal.specs.declared.Answer.the-variants.{Accepted}
+use Rattle.cell.specs.Cell.{Point, Within, Cell, Has, entryAt}
 use Rattle.lookup.specs.Loss.{lossAnswer}
-use Rattle.accuracy.specs.Claim.{ChosenBelow, ChosenAbove, entrySum, FromFirstTorque, BelowFirstTorque, OneStretch}
+use Rattle.accuracy.specs.Claim.{OneStretch, Figures, Held}
 
 -- ---- the exact entries of component data, by the indices of a point's speed and torque
 
@@ -31,20 +30,15 @@ exactOfKind c speed torque (measured input output rows) =
 unfoldable pub exactAt : Component → (speed torque : ℕ) → Cut
 exactAt c speed torque = exactOfKind c speed torque (c .kind)
 
--- ---- an answer, in a cell that has the point
+-- ---- an answer
 
--- The answer z "is the one that 'Loss at a point' names". "For every choice of fractions .. that answer keeps its lower limit against their weighted sum; the upper limit likewise with the sides turned."
 -- From the lowest torque upwards it is never below and less than 0.03 Nm above; under it less than 0.02 Nm below and less than 0.05 Nm above.
-pub record Held (c : Component) (entries : List ℕ) (p : Point) (k : Cell) (z : ℤ) : Type 0 where
-  pub named : RoundsUp (entrySum (c .speeds) (c .torques) (entryAt (length (c .torques)) entries) p k) z
-  pub never-below : FromFirstTorque (c .torques) p → (f : Corners Fraction) → ChosenBelow (c .speeds) (c .torques) (exactAt c) p k f
-      → sum (c .speeds) (c .torques) p k f ≼ signed z
-  pub less-than-3-above : FromFirstTorque (c .torques) p → (f : Corners Fraction) → ChosenAbove (c .speeds) (c .torques) (exactAt c) p k f
-      → signed z ≺ sum (c .speeds) (c .torques) p k f ⊕ whole 3
-  pub less-than-2-below : BelowFirstTorque (c .torques) p → (f : Corners Fraction) → ChosenBelow (c .speeds) (c .torques) (exactAt c) p k f
-      → sum (c .speeds) (c .torques) p k f ≺ signed z ⊕ whole 2
-  pub less-than-5-above : BelowFirstTorque (c .torques) p → (f : Corners Fraction) → ChosenAbove (c .speeds) (c .torques) (exactAt c) p k f
-      → signed z ≺ sum (c .speeds) (c .torques) p k f ⊕ whole 5
+abbrev pub figures : Figures
+figures = record {
+  above = 3;
+  below-first = 2;
+  above-first = 5;
+}
 
 -- "Every query within the map's limits is accepted", and its answer is held in every cell that has the point, of which there is one.
 pub record Answered (c : Component) (grid : Grid) (entries : List ℕ) (p : Point) : Type 0 where
@@ -53,7 +47,8 @@ pub record Answered (c : Component) (grid : Grid) (entries : List ℕ) (p : Poin
   pub some-cell : (k : Cell) × Has (c .speeds) (c .torques) p k
   -- one pair of limits applies, and not both
   pub one-stretch : OneStretch (c .torques) p
-  pub held : (k : Cell) → Has (c .speeds) (c .torques) p k → Held c entries p k loss
+  pub held : (k : Cell) → Has (c .speeds) (c .torques) p k
+      → Held figures (c .speeds) (c .torques) (entryAt (length (c .torques)) entries) (exactAt c) p k loss
 
 -- ---- the claim
 

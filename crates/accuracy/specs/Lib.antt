@@ -1,5 +1,4 @@
 -- What the laws of this crate cite.
 pub mod Claim
 pub mod Demand
-pub mod Answers
 pub mod Conventions

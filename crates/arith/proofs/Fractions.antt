@@ -9,7 +9,6 @@ use native.Mathlib.Nat.{add-mul, mul-pos, mul-le-mul-right, le-of-mul-le-mul-rig
 use borrow.Author.Tests.{leb-true, leb-false}
 use lib.Dec.{leb}
 use lib.IntN.{ℤ, pos, negsuc}
-use Rattle.arith.specs.Quotient.{QuotientUp}
 use Rattle.arith.specs.Fraction.{Fraction, _less_over_, _over_, whole, signed, _⊕_, _⊖_, _⊗_, cleared, _≼_, _≺_, larger, RoundsUp}
 
 -- x has the value (p - m) / d
@@ -220,11 +219,4 @@ pub rounds-up-same : (x y : Fraction) (z : ℤ) → x ≼ y → y ≼ x → Roun
 rounds-up-same x y z h k r = record {
   not-below = at-most-trans y x (signed z) k (r .not-below);
   near = below-trans (signed z) (x ⊕ whole 1) (y ⊕ whole 1) (r .near) (plus-at-most x y 1 h);
-}
-
--- the quotient rounded up is the fraction rounded up
-pub rounds-up-quotient : {n d q : ℕ} → 0 < d → QuotientUp n d q → RoundsUp (n over d) (pos q)
-rounds-up-quotient {n} {d} {q} h u = record {
-  not-below = at-most (is-over n d h) (is-signed-pos q) (omega (arith, u .not-below));
-  near = below (is-signed-pos q) (is-plus-whole 1 (is-over n d h)) (omega (arith, u .near));
 }

@@ -3,7 +3,7 @@ use Prim.Native.Nat.{ℕ, _+_, _*_, _-_, _/_, _≤_, _<_}
 use mathlib.Core.Path.{_≡_, sym}
 use native.Mathlib.Omega.{arith}
 use native.Mathlib.Nat.{div-mul-le-self, lt-div-mul-add}
-use Rattle.arith.specs.Quotient.{quotientUp, QuotientUp, quotientUp-law, quotientUp-least, quotientUp-unique, quotientUp-by-zero, quotientDown, quotientDown-law, quotientDown-greatest}
+use Rattle.arith.specs.Quotient.{quotientUp, QuotientUp, quotientUp-law, quotientUp-unique, quotientUp-by-zero, quotientDown, quotientDown-law, quotientDown-greatest}
 
 -- a quotient by a number that equals 0
 pub zero-divisor : (n d : ℕ) → d ≡ 0 → 0 ≡ quotientUp n d
@@ -24,9 +24,6 @@ quotientUp-exact n d h t = is-quotientUp h (record { not-below = t; near = omega
 -- the quotient of the sum with one less than the divisor, rounded down
 pub quotientUp-sum : (n d : ℕ) → 0 < d → (n + (d - 1)) / d ≡ quotientUp n d
 quotientUp-sum n d h = is-quotientUp h (record { not-below = omega (arith, lt-div-mul-add {a = n + (d - 1)} h); near = omega (arith, div-mul-le-self (n + (d - 1)) d) })
-
-pub quotientUp-monotone : (m n d : ℕ) → 0 < d → m ≤ n → quotientUp m d ≤ quotientUp n d
-quotientUp-monotone m n d h l = quotientUp-least (quotientUp-law m d h) (quotientUp n d) (omega (arith, quotientUp-law n d h .not-below))
 
 pub quotientDown-monotone : (m n d : ℕ) → 0 < d → m ≤ n → quotientDown m d ≤ quotientDown n d
 quotientDown-monotone m n d h l = quotientDown-greatest (quotientDown-law n d h) (quotientDown m d) (omega (arith, quotientDown-law m d h .not-above))

@@ -51,13 +51,6 @@ root-of-zero n e = is-rootUp (record { enough = omega arith; least = λ r h. ome
 pub next-is-rootUp : (n low high : ℕ) → low * low < n → n ≤ high * high → high ≤ suc low → high ≡ rootUp n
 next-is-rootUp n low high a b c = is-rootUp (next-is-root n low high a b c)
 
-pub rootUp-monotone : (m n : ℕ) → m ≤ n → rootUp m ≤ rootUp n
-rootUp-monotone m n l = rootUp-law m .least (rootUp n) (omega (arith, rootUp-law n .enough))
-
--- a smaller number has too small a square
-pub square-below-root : {n r : ℕ} → RootUp n r → (s : ℕ) → s < r → s * s < n
-square-below-root {n} p s l = by-contra _ _ (λ h. omega (arith, p .least s (omega arith)))
-
 -- ---- rounded down
 
 pub rootDown-law : (n : ℕ) → RootDown n (rootDown n)

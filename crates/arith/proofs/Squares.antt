@@ -11,6 +11,3 @@ square-below h = omega (arith, mul-le-mul h h)
 
 pub at-most-of-square : (a b : ℕ) → a * a ≤ b * b → a ≤ b
 at-most-of-square a b h = by-contra a b (λ l. omega (arith, square-below l))
-
-pub below-of-square : (a b : ℕ) → a * a < b * b → a < b
-below-of-square a b h = by-contra _ _ (λ l. let k : b ≤ a = omega arith in omega (arith, square-at-most k))

@@ -76,6 +76,10 @@ x ≼ y = cleared x y ≤ cleared y x
 unfoldable pub _≺_ : Fraction → Fraction → Type 0
 x ≺ y = cleared x y < cleared y x
 
+-- two fractions of one value
+abbrev pub Same : Fraction → Fraction → Type 0
+Same x y = (x ≼ y) × (y ≼ x)
+
 -- the larger of two fractions
 unfoldable pub larger : Fraction → Fraction → Fraction
 larger x y = cond (leb (cleared x y) (cleared y x)) y x

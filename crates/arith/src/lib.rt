@@ -1,7 +1,7 @@
 // Quotients and square roots of whole numbers, rounded up.
 ghost use mathlib.Core.Path.{_≡_};
 ghost use mathlib.Core.Bool.{true};
-ghost use Prim.Native.Nat.{_<_, _≤_, _*_, _/_, _^_};
+ghost use Prim.Native.Nat.{_<_, _≤_, _*_, _/_, _^_, _-_};
 ghost use Rattle.arith.specs.Quotient.{quotientUp};
 ghost use Rattle.arith.specs.Root.{rootUp};
 
@@ -116,4 +116,11 @@ fn newton_step(m: u64, s: u64) -> u64
     ensures { λ r. ⌜ (s / 2 ≤ r) × (r ≤ 2 ^ 62) ⌝ }
 {
     (s + m / s) / 2
+}
+
+// a - b, or 0 where b is above a.
+pub fn part_above(a: u64, b: u64) -> u64
+    ensures { λ r. ⌜ r ≡ a - b ⌝ }
+{
+    if b <= a { a - b } else { 0 }
 }

@@ -1,42 +1,21 @@
 -- What the build's answer is for C, and demand 3 of what it leaves there. Assumes nothing.
-use Prim.Native.Nat.{ℕ, _<_}
+use Prim.Native.Nat.{ℕ}
 use mathlib.Core.Path.{_≡_, refl, ap}
 use mathlib.Core.List.{List}
 use native.Mathlib.Omega.{arith}
-use Rattle.refusal.specs.Outcome.{accepted, refused}
-use Rattle.refusal.specs.Table.{number}
-use Rattle.refusal.specs.declared.Refusal.{Refusal}
-use Rattle.refusal.specs.declared.Refusal.the-variants.{Incomplete, WrongTag, WrongLength, OutOfRange, NotRising, FirstTorqueAboveStep, AboveNominal, OffAxisTorque, NegativeLoss, EntryTooLarge, TooShort, TrailingBytes, SpeedOutside, TorqueAbove, NotAMap}
 use Rattle.layout.specs.Rules.{AreBytes}
 use Rattle.map.specs.Build.{build}
 use Rattle.map.specs.Answers.{Unstated, answerOf, Builds}
 use Rattle.map.specs.declared.Built.{Built}
-use Rattle.map.specs.declared.Answer.{Answer}
-use Rattle.map.specs.declared.Answer.the-variants.{Accepted, Refused}
+use Rattle.refusal.specs.declared.Answer.{Answer}
+use Rattle.refusal.specs.declared.Answer.the-variants.{Accepted, Refused}
 use Rattle.accuracy.proofs.Demand.{demand3}
 use lib.ListN.{length}
+use Rattle.refusal.proofs.Numbers.{number-between}
 use Rattle.axle.specs.Interface.{statusOf}
 use Rattle.axle.specs.Build.{refusalIn, placeIn, speedsIn, torquesIn, BuildsForC}
 use Rattle.axle.specs.declared.Status.{Status}
 use Rattle.axle.specs.declared.AxleBuilt.{AxleBuilt}
-
--- 0 is the number of no refusal
-pub number-positive : (x : Refusal) → 0 < number x
-number-positive (Incomplete p) = omega arith
-number-positive (WrongTag p) = omega arith
-number-positive (WrongLength p) = omega arith
-number-positive (OutOfRange p) = omega arith
-number-positive (NotRising p) = omega arith
-number-positive (FirstTorqueAboveStep p) = omega arith
-number-positive (AboveNominal p) = omega arith
-number-positive (OffAxisTorque p) = omega arith
-number-positive (NegativeLoss p) = omega arith
-number-positive (EntryTooLarge p) = omega arith
-number-positive (TooShort p) = omega arith
-number-positive (TrailingBytes p) = omega arith
-number-positive SpeedOutside = omega arith
-number-positive TorqueAbove = omega arith
-number-positive NotAMap = omega arith
 
 -- the answer for C, from the build's status and its grid
 abbrev pub forC : Status → Built → AxleBuilt
@@ -72,7 +51,7 @@ module _ (bytes before after : List ℕ) (built : Built) (areBytes : AreBytes by
         torques = rw (empty .1) (ap torquesIn o);
         counts = (b .counts .speeds, b .counts .torques);
         entries = b .written;
-        accurate = λ none. absurd (omega (arith, number-positive x, none));
+        accurate = λ none. absurd (omega (arith, number-between x .0, none));
       }
 
   pub builds-for-c : (s : Status) → s ≡ statusOf (built .answer) → BuildsForC bytes before after (forC s built)

@@ -3,8 +3,8 @@ use Prim.Native.Nat.{ℕ}
 use lib.IntN.{ℤ, pos}
 use Rattle.refusal.specs.Outcome.{Outcome, accepted, refused}
 use Rattle.refusal.specs.Table.{number, place}
-use Rattle.map.specs.declared.Answer.{Answer}
-use Rattle.map.specs.declared.Answer.the-variants.{Accepted, Refused}
+use Rattle.refusal.specs.declared.Answer.{Answer}
+use Rattle.refusal.specs.declared.Answer.the-variants.{Accepted, Refused}
 use Rattle.lookup.specs.Nearest.{GridPoint}
 use Rattle.axle.specs.declared.Status.{Status}
 use Rattle.axle.specs.declared.AxleLoss.{AxleLoss}

@@ -3,7 +3,7 @@
 use listing::ListingAnswer;
 use lookup::LossAnswer;
 use lookup::NearestAnswer;
-use map::Answer;
+use refusal::Answer;
 ghost use mathlib.Core.Path.{_≡_};
 ghost use lib.ListN.{length};
 ghost use Rattle.grid.specs.Parts.{gridOf};
@@ -159,7 +159,11 @@ pub extern "C" fn axle_loss(
     speed: u32,
     torque: u32,
 ) -> AxleLoss
-    ensures { λ r. ⌜ r ≡ lossOf (lossAnswer (gridOf (now (speeds .entry)) «speed_count» (now (torques .entry)) «torque_count») (now (entries .entry)) (record { speed = speed; torque = torque })) ⌝ }
+    ensures { λ r. ⌜
+        r ≡
+        lossOf
+        (lossAnswer (gridOf (now (speeds .entry)) «speed_count» (now (torques .entry)) «torque_count»)
+        (now (entries .entry)) (record { speed = speed; torque = torque })) ⌝ }
 {
     loss_of(lookup::loss_in_parts(
         speeds,
@@ -182,7 +186,10 @@ pub extern "C" fn axle_nearest(
     speed: u32,
     torque: u32,
 ) -> AxleNearest
-    ensures { λ r. ⌜ r ≡ nearestOf (nearestAnswer (gridOf (now (speeds .entry)) «speed_count» (now (torques .entry)) «torque_count») (record { speed = speed; torque = torque })) ⌝ }
+    ensures { λ r. ⌜
+        r ≡
+        nearestOf
+        (nearestAnswer (gridOf (now (speeds .entry)) «speed_count» (now (torques .entry)) «torque_count») (record { speed = speed; torque = torque })) ⌝ }
 {
     nearest_of(lookup::nearest_in_parts(speeds, speed_count, torques, torque_count, speed, torque))
 }
@@ -197,8 +204,16 @@ pub extern "C" fn axle_listing(
     entries: &[u32],
     text: &mut [u8],
 ) -> AxleListing
-    ensures { λ r. ⌜ r ≡ listingOf (listed (gridOf (now (speeds .entry)) «speed_count» (now (torques .entry)) «torque_count») (now (entries .entry)) (length (now (text .entry)))) ⌝ }
-    ensures { λ r. ⌜ now (text .exit) ≡ contentOf (listed (gridOf (now (speeds .entry)) «speed_count» (now (torques .entry)) «torque_count») (now (entries .entry)) (length (now (text .entry)))) (listing (gridOf (now (speeds .entry)) «speed_count» (now (torques .entry)) «torque_count») (now (entries .entry))) (now (text .entry)) ⌝ }
+    ensures { λ r. ⌜
+        r ≡
+        listingOf
+        (listed (gridOf (now (speeds .entry)) «speed_count» (now (torques .entry)) «torque_count») (now (entries .entry)) (length (now (text .entry)))) ⌝ }
+    ensures { λ r. ⌜
+        now (text .exit) ≡
+        contentOf
+        (listed (gridOf (now (speeds .entry)) «speed_count» (now (torques .entry)) «torque_count») (now (entries .entry)) (length (now (text .entry))))
+        (listing (gridOf (now (speeds .entry)) «speed_count» (now (torques .entry)) «torque_count») (now (entries .entry)))
+        (now (text .entry)) ⌝ }
 {
     listing_of(listing::write_in_parts(speeds, speed_count, torques, torque_count, entries, text))
 }

@@ -4,8 +4,8 @@ use mathlib.Core.Path.{_≡_, refl}
 use mathlib.Core.List.{List, [], _∷_, _++_}
 use Rattle.refusal.specs.Outcome.{Outcome, accepted, refuse, firstRefusal}
 use Rattle.grid.specs.Axis.{within, rises, axisNumber, axisNumbers, firstStep}
-use Rattle.component.specs.Bytes.{pairs}
-use Rattle.component.specs.Field.{head, field, number, axis}
+use Rattle.fields.specs.Bytes.{pairs}
+use Rattle.fields.specs.Field.{head, field, number, axis}
 use Rattle.component.specs.Component.{Component, standard, component, axleFields, axesFields, kindFields, measuredFields}
 
 -- SR, so many thousandths as two bytes, speeds 100 and 200, and the head of tag 5 with two torques

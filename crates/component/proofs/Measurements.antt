@@ -1,10 +1,9 @@
 -- The answers of the fields that only measured data has. Assumes nothing.
-use Prim.Native.Nat.{ℕ, _≤_}
+use Prim.Native.Nat.{ℕ}
 use mathlib.Core.Path.{_≡_, refl}
 use mathlib.Core.Bool.{false}
 use mathlib.Core.List.{List}
 use lib.Dec.{eqb}
-use Rattle.refusal.specs.Outcome.{if_then_else_}
 use Rattle.component.specs.Answers.{measuredReadOf, kindReadOf, NotMeasured}
 use Rattle.component.specs.declared.MeasuredRead.{MeasuredRead}
 use Rattle.component.specs.declared.MeasuredRead.the-variants.{Read, Refused}

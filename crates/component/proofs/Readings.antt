@@ -8,23 +8,23 @@ use native.Mathlib.Nat.{mul-le-mul}
 use borrow.Author.Tests.{le-leb, lt-leb, leb-true}
 use lib.Dec.{leb}
 use lib.ListN.{length}
-use Rattle.refusal.specs.Outcome.{Told, Outcome, accepted, refused, refuse, require, _>>=_, if_then_else_}
+use Rattle.refusal.specs.Outcome.{Told, accepted, refused, refuse, require, _>>=_}
 use Rattle.refusal.specs.Table.{told}
 use Rattle.refusal.specs.declared.Refusal.{Refusal}
 use Rattle.refusal.proofs.Steps.{never, same-value, then-accepted, test-accepted}
 use Rattle.grid.specs.Axis.{_to_, within}
 use Rattle.grid.specs.declared.Range.{Range}
 use Rattle.grid.proofs.Every.{and-fst, and-snd}
-use Rattle.component.specs.Bytes.{numberOf, between}
-use Rattle.component.specs.Field.{Field, head, field, exactly, number}
-use Rattle.component.specs.Component.{Run, Axle, Axes, Kind, kindNumber, Rows, Component, axleFields, axesFields, kindFields, component}
+use Rattle.fields.specs.Bytes.{numberOf, between}
+use Rattle.fields.specs.Field.{Field, head, field, exactly, number}
+use Rattle.component.specs.Component.{Run, Axle, AxesNumbers, Kind, kindNumber, Rows, Component, axleFields, axesFields, kindFields, component}
 use Rattle.grid.specs.Map.{speedsOf, torquesOf}
 use Rattle.grid.specs.declared.Grid.{Grid}
 use Rattle.component.specs.Answers.{CountsWithin, NoNumbers, kindOf, rowsOf, Reads}
-use Rattle.component.specs.declared.sensor.Sensor.{Sensor}
+use Rattle.sensor.specs.declared.Sensor.{Sensor}
 use Rattle.component.specs.declared.Measured.{Measured}
 use Rattle.component.specs.declared.Reading.{Reading}
-use Rattle.component.specs.declared.Answer.the-variants.{Refused}
+use Rattle.refusal.specs.declared.Answer.the-variants.{Refused}
 
 -- as many points as the axes' counts say
 pub points : (grid : Grid) → CountsWithin grid → length (speedsOf (grid .speeds)) * length (torquesOf (grid .torques)) ≡ grid .speeds .count * grid .torques .count
@@ -94,7 +94,7 @@ module _ (bytes : List ℕ) where
     unfolding component
     axes-refused t e = rw (← a, ← e)
 
-    module _ (axes : Run Axes) (b : accepted axes ≡ axesFields bytes (axle .next)) (points : ℕ)
+    module _ (axes : Run AxesNumbers) (b : accepted axes ≡ axesFields bytes (axle .next)) (points : ℕ)
         (p : length (axes .value .speeds) * length (axes .value .torques) ≡ points) where
       pub kind-refused : (t : Told) → refused t ≡ kindFields bytes (axes .next) (axle .value .kind) points → refused t ≡ component bytes
       unfolding component

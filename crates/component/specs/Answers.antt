@@ -1,89 +1,30 @@
 -- What the code's answers say in document 01's terms.
 use Prim.Native.Nat.{ℕ, _≤_}
-use mathlib.Core.Bool.{Bool}
 use mathlib.Core.List.{List}
 use mathlib.Core.Path.{_≡_}
 use lib.Dec.{eqb}
-use lib.ListN.{length, take}
-use Rattle.refusal.specs.Outcome.{Outcome, accepted, refused, refuse, if_then_else_}
+use lib.ListN.{length}
+use Rattle.refusal.specs.Outcome.{Outcome, accepted, refused, if_then_else_}
 use Rattle.refusal.specs.Table.{told}
 use Rattle.grid.specs.Map.{speedsOf, torquesOf}
 use Rattle.grid.specs.declared.Grid.{Grid}
-use Rattle.component.specs.Field.{Head, Field, exactly, numbers}
-use Rattle.component.specs.Component.{Run, Axle as AxleSays, Axes as AxesSay, Rows, Kind, standard, measured, kindNumber, Component as ComponentSays, component}
-use Rattle.component.specs.Bytes.{between}
-use Rattle.component.specs.declared.sensor.Sensor.{Sensor}
-use Rattle.component.specs.declared.sensor.SensorFault.{SensorFault}
-use Rattle.component.specs.declared.sensor.SensorFault.the-variants.{Nothing, OutOfRange}
-use Rattle.component.specs.declared.cursor.SensorRead.{SensorRead}
-use Rattle.component.specs.declared.cursor.SensorRead.the-variants.{Read as SensorIs, Refused as SensorRefused}
-use Rattle.component.specs.declared.cursor.Allowed.{Allowed}
-use Rattle.component.specs.declared.cursor.Allowed.the-variants.{Exactly, Numbers}
-use Rattle.component.specs.declared.cursor.FieldRead.{FieldRead}
-use Rattle.component.specs.declared.cursor.FieldRead.the-variants.{Field as FieldIs, Refused as FieldRefused}
-use Rattle.component.specs.declared.cursor.NumberRead.{NumberRead}
-use Rattle.component.specs.declared.cursor.NumberRead.the-variants.{Read as NumberIs, Refused as NumberRefused}
-use Rattle.component.specs.declared.cursor.NumbersRead.{NumbersRead}
-use Rattle.component.specs.declared.cursor.NumbersRead.the-variants.{Fine, Refused as NumbersRefused}
-use Rattle.component.specs.declared.cursor.AxisRead.{AxisRead}
-use Rattle.component.specs.declared.cursor.AxisRead.the-variants.{Read as AxisIs, Refused as AxisRefused}
-use Rattle.component.specs.declared.cursor.SensorFieldRead.{SensorFieldRead}
-use Rattle.component.specs.declared.cursor.SensorFieldRead.the-variants.{Read as SensorFieldIs, Refused as SensorFieldRefused}
+use Rattle.component.specs.Component.{Run, Axle as AxleSays, AxesNumbers, Rows, Kind, standard, measured, kindNumber, Component as ComponentSays, component}
+use Rattle.fields.specs.Bytes.{between}
+use Rattle.sensor.specs.declared.Sensor.{Sensor}
 use Rattle.component.specs.declared.AxleRead.{AxleRead}
 use Rattle.component.specs.declared.AxleRead.the-variants.{Read as AxleIs, Refused as AxleRefused}
 use Rattle.component.specs.declared.AxesAnswer.{AxesAnswer}
 use Rattle.component.specs.declared.AxesAnswer.the-variants.{Read as AxesAre, Refused as AxesRefused}
-use Rattle.component.specs.declared.Axes.{Axes}
-use Rattle.component.specs.declared.Part.{Part}
+use Rattle.component.specs.declared.AxesRead.{AxesRead}
+use Rattle.component.specs.declared.DataPart.{DataPart}
 use Rattle.component.specs.declared.Measured.{Measured}
 use Rattle.component.specs.declared.MeasuredRead.{MeasuredRead}
 use Rattle.component.specs.declared.MeasuredRead.the-variants.{Read as MeasuredIs, Refused as MeasuredRefused}
 use Rattle.component.specs.declared.Axle.{Axle}
 use Rattle.component.specs.declared.Component.{Component}
-use Rattle.component.specs.declared.Answer.{Answer}
-use Rattle.component.specs.declared.Answer.the-variants.{Accepted, Refused}
+use Rattle.refusal.specs.declared.Answer.{Answer}
+use Rattle.refusal.specs.declared.Answer.the-variants.{Accepted, Refused}
 use Rattle.component.specs.declared.Reading.{Reading}
-
--- which lengths are allowed
-abbrev pub allowedOf : Allowed → ℕ → Bool
-allowedOf (Exactly bytes) = exactly bytes
-allowedOf (Numbers fewest most) = numbers fewest most
-
-abbrev pub fieldReadOf : FieldRead → Outcome Head
-fieldReadOf (FieldIs kind start next) = accepted (record { tag = kind; start = start; end = next .at })
-fieldReadOf (FieldRefused x) = refused (told x)
-
--- the index of a number out of its range stands for its place
-abbrev pub sensorFaultOf : SensorFault → Outcome (Unit {0})
-sensorFaultOf Nothing = accepted tt
-sensorFaultOf (OutOfRange i) = refuse 4 i
-
-abbrev pub sensorReadOf : SensorRead → Outcome Sensor
-sensorReadOf (SensorIs s) = accepted s
-sensorReadOf (SensorRefused x) = refused (told x)
-
-abbrev pub numberReadOf : NumberRead → Outcome (Field ℕ)
-numberReadOf (NumberIs f) = accepted (record { value = f .value; start = f .start; next = f .next .at })
-numberReadOf (NumberRefused x) = refused (told x)
-
--- numbers with the answer of their check
-abbrev pub numbersReadOf : NumbersRead → List ℕ → Outcome (List ℕ)
-numbersReadOf Fine ns = accepted ns
-numbersReadOf (NumbersRefused x) ns = refused (told x)
-
--- an axis is the first numbers of the list that they were written to
-abbrev pub axisReadOf : AxisRead → List ℕ → Outcome (Field (List ℕ))
-axisReadOf (AxisIs f) ns = accepted (record { value = take (f .count) ns; start = f .start; next = f .next .at })
-axisReadOf (AxisRefused x) ns = refused (told x)
-
--- an axis that is read has two numbers or more, and no more than there are places
-abbrev pub CountWithin : ℕ → AxisRead → Type 0
-CountWithin places (AxisIs f) = (2 ≤ f .count) × (f .count ≤ places)
-CountWithin places (AxisRefused x) = Unit
-
-abbrev pub sensorFieldReadOf : SensorFieldRead → Outcome (Field Sensor)
-sensorFieldReadOf (SensorFieldIs f) = accepted (record { value = f .sensor; start = f .start; next = f .next .at })
-sensorFieldReadOf (SensorFieldRefused x) = refused (told x)
 
 abbrev pub axleReadOf : AxleRead → Outcome (Run AxleSays)
 axleReadOf (AxleIs a) = accepted (record {
@@ -93,14 +34,14 @@ axleReadOf (AxleIs a) = accepted (record {
 axleReadOf (AxleRefused x) = refused (told x)
 
 -- axes with the answer of their check
-abbrev pub axesAnswerOf : AxesAnswer → Grid → Outcome (Run AxesSay)
+abbrev pub axesAnswerOf : AxesAnswer → Grid → Outcome (Run AxesNumbers)
 axesAnswerOf (AxesAre next) grid = accepted (record {
   value = record { speeds = speedsOf (grid .speeds); torques = torquesOf (grid .torques) };
   next = next .at;
 })
 axesAnswerOf (AxesRefused x) grid = refused (told x)
 
-abbrev pub axesReadOf : Axes → Outcome (Run AxesSay)
+abbrev pub axesReadOf : AxesRead → Outcome (Run AxesNumbers)
 axesReadOf r = axesAnswerOf (r .answer) (r .grid)
 
 -- no axis has more numbers than it has places
@@ -111,7 +52,7 @@ pub record CountsWithin (grid : Grid) : Type 0 where
   pub torques-length : length (torquesOf (grid .torques)) ≡ grid .torques .count
 
 -- the rows that a part of the data holds
-abbrev pub rowsOf : List ℕ → Part → Rows
+abbrev pub rowsOf : List ℕ → DataPart → Rows
 rowsOf bytes part = record { start = part .start; bytes = between bytes (part .start) (part .end) }
 
 abbrev pub measuredReadOf : List ℕ → MeasuredRead → Outcome (Run Kind)
@@ -127,11 +68,11 @@ kindReadOf bytes kind (MeasuredIs m) = accepted (record { value = kindOf kind (m
 kindReadOf bytes kind (MeasuredRefused x) = refused (told x)
 
 -- a part that lies within so many bytes
-abbrev pub Within : ℕ → Part → Type 0
-Within size part = (part .start ≤ part .end) × (part .end ≤ size)
+abbrev pub PartWithin : ℕ → DataPart → Type 0
+PartWithin size part = (part .start ≤ part .end) × (part .end ≤ size)
 
 abbrev pub RowsWithin : ℕ → MeasuredRead → Type 0
-RowsWithin size (MeasuredIs m) = Within size (m .rows)
+RowsWithin size (MeasuredIs m) = PartWithin size (m .rows)
 RowsWithin size (MeasuredRefused x) = Unit
 
 -- what stands where there is no sensor, and where there are no rows: it means nothing
@@ -148,7 +89,7 @@ noSensor = record {
   span = 0;
 }
 
-abbrev pub noPart : Part
+abbrev pub noPart : DataPart
 noPart = record { start = 0; end = 0 }
 
 -- kind 1 has neither sensors nor rows
@@ -207,5 +148,5 @@ pub record Reads (bytes : List ℕ) (r : Reading) : Type 0 where
   -- the kind's number, of which `readingOf` asks only whether it is 1
   pub kind : (says : ComponentSays) → component bytes ≡ accepted says → r .component .kind ≡ kindNumber (says .kind)
   pub counts : CountsWithin (r .component .grid)
-  pub rows : Within (length bytes) (r .component .rows)
+  pub rows : PartWithin (length bytes) (r .component .rows)
   pub unstated : Unstated (r .answer) (r .component)

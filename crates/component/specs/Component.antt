@@ -1,14 +1,13 @@
 -- Document 01, "Component data": "Exactly these fields, in this order." "Fields in their order, then 12".
 use Prim.Native.Nat.{ℕ, _*_}
-use mathlib.Core.Bool.{Bool}
 use mathlib.Core.List.{List}
 use lib.Dec.{leb, eqb}
 use lib.ListN.{length}
 use Rattle.refusal.specs.Outcome.{Outcome, accepted, _>>=_, require, if_then_else_}
 use Rattle.grid.specs.Axis.{_to_, firstStep}
-use Rattle.component.specs.Field.{field, exactly, numbers, number, axis}
-use Rattle.component.specs.Sensor.{sensor}
-use Rattle.component.specs.declared.sensor.Sensor.{Sensor}
+use Rattle.fields.specs.Field.{field, exactly, numbers, number, axis}
+use Rattle.fields.specs.Sensor.{sensor}
+use Rattle.sensor.specs.declared.Sensor.{Sensor}
 
 -- the rows of tag 8: the bytes of its body, and the place of the first
 pub record Rows : Type 0 where
@@ -55,11 +54,11 @@ axleFields bytes at = do
   })
 
 -- tags 4 and 5; "then numbers left to right (at each, 4 before 5), then 6"
-pub record Axes : Type 0 where
+pub record AxesNumbers : Type 0 where
   pub speeds : List ℕ
   pub torques : List ℕ
 
-unfoldable pub axesFields : List ℕ → ℕ → Outcome (Run Axes)
+unfoldable pub axesFields : List ℕ → ℕ → Outcome (Run AxesNumbers)
 axesFields bytes at = do
   speeds ← field bytes at 4 (numbers 2 32) (axis (1 to 3000))
   torques ← field bytes (speeds .next) 5 (numbers 2 64) (axis (0 to 50000))

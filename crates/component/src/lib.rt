@@ -1,17 +1,15 @@
 // Reads component data: a run of fields, each a tag, a length in two bytes and a body.
-mod cursor;
-pub mod sensor;
-
-use cursor::Allowed;
-use cursor::AxisRead;
-use cursor::Cursor;
-use cursor::FieldRead;
-use cursor::NumberRead;
-use cursor::SensorFieldRead;
+use fields::Allowed;
+use fields::AxisRead;
+use fields::Cursor;
+use fields::FieldRead;
+use fields::NumberRead;
+use fields::SensorFieldRead;
 use grid::Grid;
 use grid::Range;
 use grid::SpeedAxis;
 use grid::TorqueAxis;
+use refusal::Answer;
 use refusal::Refusal;
 use sensor::Sensor;
 ghost use mathlib.Core.Path.{_≡_};
@@ -21,7 +19,7 @@ ghost use Rattle.component.specs.Component.{axleFields, axesFields, meas
 ghost use Rattle.component.specs.Answers.{axleReadOf, axesReadOf, CountsWithin, measuredReadOf, kindReadOf, RowsWithin, NotMeasured, noSensor, noPart, componentFrom, NoNumbers, Reads};
 
 // A part of the data, from start up to end.
-pub struct Part {
+pub struct DataPart {
     pub start: usize,
     pub end: usize,
 }
@@ -39,12 +37,7 @@ pub struct Component {
     pub input: Sensor,
     pub output: Sensor,
     // the part of the data that the rows of kind 2 occupy
-    pub rows: Part,
-}
-
-pub enum Answer {
-    Accepted,
-    Refused(Refusal),
+    pub rows: DataPart,
 }
 
 // Where the answer is a refusal, the component means nothing.
@@ -69,14 +62,14 @@ const RATIOS: Range = Range {
 };
 
 // Tags 1 to 3, and the cursor past them.
-pub struct Axle {
+struct Axle {
     pub kind: u16,
     pub line: u16,
     pub ratio: u16,
     pub next: Cursor,
 }
 
-pub enum AxleRead {
+enum AxleRead {
     Read(Axle),
     Refused(Refusal),
 }
@@ -106,27 +99,27 @@ fn read_axle(data: &[u8], start: Cursor) -> AxleRead
 }
 
 // Tags 4 and 5: the cursor past them, or the refusal.
-pub enum AxesAnswer {
+enum AxesAnswer {
     Read(Cursor),
     Refused(Refusal),
 }
 
-pub struct Axes {
+struct AxesRead {
     pub answer: AxesAnswer,
     pub grid: Grid,
 }
 
-fn refused_axes(x: Refusal) -> Axes
+fn refused_axes(x: Refusal) -> AxesRead
     ensures { λ r. ⌜ (r .answer ≡ AxesAnswer.Refused x) × (r .grid .speeds .count ≡ 0) × (r .grid .torques .count ≡ 0) ⌝ }
 {
     let grid = grid::empty_grid();
-    Axes {
+    AxesRead {
         answer: AxesAnswer::Refused(x),
         grid,
     }
 }
 
-fn read_axes(data: &[u8], start: Cursor) -> Axes
+fn read_axes(data: &[u8], start: Cursor) -> AxesRead
     ensures { λ r. ⌜ (axesReadOf r ≡ axesFields (now («data» .entry)) (start .at)) × CountsWithin (r .grid) ⌝ }
 {
     let mut speeds = [0u16; 32];
@@ -151,7 +144,7 @@ fn read_axes(data: &[u8], start: Cursor) -> Axes
         numbers: torques,
         count: torque.count,
     };
-    Axes {
+    AxesRead {
         answer: AxesAnswer::Read(next),
         grid: Grid {
             speeds: speed_axis,
@@ -161,21 +154,22 @@ fn read_axes(data: &[u8], start: Cursor) -> Axes
 }
 
 // Tags 6 to 8, and the cursor past them.
-pub struct Measured {
+struct Measured {
     pub input: Sensor,
     pub output: Sensor,
-    pub rows: Part,
+    pub rows: DataPart,
     pub next: Cursor,
 }
 
-pub enum MeasuredRead {
+enum MeasuredRead {
     Read(Measured),
     Refused(Refusal),
 }
 
 fn read_measured(data: &[u8], start: Cursor, points: usize) -> MeasuredRead
     requires { ⌜ points ≤ 2048 ⌝ }
-    ensures { λ r. ⌜ (measuredReadOf (now («data» .entry)) r ≡ measuredFields (now («data» .entry)) (start .at) points) × RowsWithin (length (now («data» .entry))) r ⌝ }
+    ensures { λ r. ⌜ measuredReadOf (now («data» .entry)) r ≡ measuredFields (now («data» .entry)) (start .at) points ⌝ }
+    ensures { λ r. ⌜ RowsWithin (length (now («data» .entry))) r ⌝ }
 {
     let input = match start.sensor(data, 6) {
         SensorFieldRead::Refused(x) => return MeasuredRead::Refused(x),
@@ -197,7 +191,7 @@ fn read_measured(data: &[u8], start: Cursor, points: usize) -> MeasuredRead
             MeasuredRead::Read(Measured {
                 input: input_sensor,
                 output: output_sensor,
-                rows: Part {
+                rows: DataPart {
                     start,
                     end: next.at,
                 },
@@ -233,7 +227,7 @@ fn not_measured(next: Cursor) -> Measured
     Measured {
         input,
         output,
-        rows: Part { start: 0, end: 0 },
+        rows: DataPart { start: 0, end: 0 },
         next,
     }
 }
@@ -241,7 +235,10 @@ fn not_measured(next: Cursor) -> Measured
 // What follows the axes.
 fn read_kind(data: &[u8], start: Cursor, kind: u16, points: usize) -> MeasuredRead
     requires { ⌜ points ≤ 2048 ⌝ }
-    ensures { λ r. ⌜ (kindReadOf (now («data» .entry)) kind r ≡ kindFields (now («data» .entry)) (start .at) kind points) × RowsWithin (length (now («data» .entry))) r × NotMeasured kind r ⌝ }
+    ensures { λ r. ⌜
+        (kindReadOf (now («data» .entry)) kind r ≡ kindFields (now («data» .entry)) (start .at) kind points)
+        × RowsWithin (length (now («data» .entry))) r
+        × NotMeasured kind r ⌝ }
 {
     if kind == 1 {
         return MeasuredRead::Read(not_measured(start));
@@ -262,7 +259,7 @@ fn refused(x: Refusal) -> Reading
         grid,
         input,
         output,
-        rows: Part { start: 0, end: 0 },
+        rows: DataPart { start: 0, end: 0 },
     };
     Reading {
         answer: Answer::Refused(x),

@@ -1,12 +1,12 @@
 -- The tests of an axis hold exactly where its numbers keep their rules. Assumes nothing.
 use Prim.Native.Nat.{ℕ, zero, suc, _+_, _-_, _≤_, _<_}
 use mathlib.Core.Path.{_≡_, refl}
-use mathlib.Core.Bool.{Bool, true, false, _&&_, _||_}
+use mathlib.Core.Bool.{Bool, true, false, _&&_}
 use mathlib.Core.List.{List}
 use native.Mathlib.Numerals.{add-one}
 use native.Mathlib.Omega.{arith}
-use borrow.Author.Tests.{leb-true, ltb-true, le-leb, lt-ltb, eq-eqb, ne-eqb}
-use lib.Dec.{leb, ltb, eqb}
+use borrow.Author.Tests.{leb-true, ltb-true, le-leb, lt-ltb, ne-eqb}
+use lib.Dec.{leb, eqb}
 use lib.ListN.{getD}
 use Rattle.grid.specs.Every.{every}
 use Rattle.refusal.specs.Outcome.{accepted}

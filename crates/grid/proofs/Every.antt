@@ -1,5 +1,5 @@
 -- Laws of `every`, the test at every index below a number. Assumes nothing.
-use Prim.Native.Nat.{ℕ, zero, suc, _+_, _≤_, _<_}
+use Prim.Native.Nat.{ℕ, zero, suc, _+_, _<_}
 use mathlib.Core.Path.{_≡_, refl}
 use mathlib.Core.Bool.{Bool, true, false, _&&_}
 use mathlib.Core.Logic.{_⊎_, inl, inr}
@@ -25,16 +25,6 @@ and-snd false b e = cc
 pub and-not : (a b : Bool) → (a && b) ≡ false → (a ≡ false) ⊎ (b ≡ false)
 and-not true b e = inr e
 and-not false b e = inl refl
-
--- no index is left
-pub every-none : (test : ℕ → Bool) → every test 0 ≡ true
-unfolding every
-every-none test = refl
-
--- one index more
-pub every-more : (test : ℕ → Bool) (i : ℕ) → every test i ≡ true → test i ≡ true → every test (i + 1) ≡ true
-unfolding every
-every-more test i h k = rw (add-one, h, k)
 
 at-step : (test : ℕ → Bool) (n k : ℕ) → k < suc n → test n ≡ true → (k < n → test k ≡ true) → Dec (k < n) → test k ≡ true
 at-step test n k l h f (yes q) = f q

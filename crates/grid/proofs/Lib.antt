@@ -1,6 +1,7 @@
 pub mod Every
 pub mod Numbers
 pub mod Axis
-pub mod Bound
 pub mod Map
 pub mod Points
+pub mod Lists
+pub mod Filling

@@ -1,17 +1,18 @@
 -- Laws of the numbers of an axis: when they are accepted, and which refusal they give. Assumes nothing.
-use Prim.Native.Nat.{ℕ, zero, suc, _<_, zero-le}
-use mathlib.Core.Path.{_≡_, refl, sym, ap, _∙_}
+use Prim.Native.Nat.{ℕ, _<_, zero-le}
+use mathlib.Core.Path.{_≡_, refl, sym, ap}
 use mathlib.Core.Bool.{Bool, true, false, _&&_}
 use mathlib.Core.List.{List}
 use mathlib.Core.Logic.{_⊎_, inl, inr}
 use native.Mathlib.Omega.{arith}
 use lib.ListN.{getD}
-use Rattle.refusal.specs.Outcome.{Told, refusal, Outcome, accepted, refused, refuse, require, _>>=_, if_then_else_, firstRefusal}
+use Rattle.refusal.specs.Outcome.{Told, refusal, accepted, refused, refuse, require, _>>=_}
 use Rattle.grid.specs.Every.{every}
 use Rattle.grid.specs.Axis.{within, rises, axisNumber, axisNumbers}
 use Rattle.grid.specs.declared.Range.{Range}
 use Rattle.grid.proofs.Every.{and-fst, and-snd, every-at, every-of}
-use Rattle.refusal.proofs.First.{first-all, first-of, Stop, first-found}
+use Rattle.refusal.proofs.Steps.{same-refusal}
+use Rattle.refusal.proofs.First.{first-all, first-of, first-found}
 
 -- number i is in its range and above the one before
 abbrev pub rightAt : Range → List ℕ → ℕ → Bool
@@ -53,16 +54,13 @@ pub number-accepted : (range : Range) (ns : List ℕ) (i : ℕ) → axisNumber r
 unfolding axisNumber
 number-accepted range ns i e = two-tests i (within range (getD ns i 0)) (rises ns i) e
 
-same : (s t : Told) → _≡_ {A = Outcome (Unit {0})} (refused s) (refused t) → s ≡ t
-same s t e = cc
-
 which-test : (i : ℕ) (t : Told) (a b : Bool) → (require a 4 i >>= λ _. require b 5 i) ≡ refused t → (t .place ≡ i) × (((t .number ≡ 4) × (a ≡ false)) ⊎ ((t .number ≡ 5) × (a ≡ true) × (b ≡ false)))
 which-test i t true true e = let z : _≡_ {A = ℕ} 0 1 = cc in absurd (omega arith)
 which-test i t true false e =
-    let s = sym (same (refusal 5 i) t e) in
+    let s = sym (same-refusal {A = Unit {0}} (refusal 5 i) t e) in
     (ap (λ (u : Told). u .place) s, inr (ap (λ (u : Told). u .number) s, refl, refl))
 which-test i t false b e =
-    let s = sym (same (refusal 4 i) t e) in
+    let s = sym (same-refusal {A = Unit {0}} (refusal 4 i) t e) in
     (ap (λ (u : Told). u .place) s, inl (ap (λ (u : Told). u .number) s, refl))
 
 pub number-refused : (range : Range) (ns : List ℕ) (i : ℕ) (t : Told) → axisNumber range ns i ≡ refused t → (t .place ≡ i) × Wrong range ns i t

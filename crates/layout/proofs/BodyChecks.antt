@@ -5,31 +5,29 @@ use mathlib.Core.Bool.{Bool, true, false}
 use mathlib.Core.List.{List, [], _∷_}
 use mathlib.Core.Logic.{_⊎_, inl, inr}
 use native.Mathlib.Omega.{arith}
-use native.Mathlib.Numerals.{add-one}
 use native.Mathlib.Decide.{decLe}
-use borrow.Author.Tests.{leb-true, le-leb, lt-leb, ltb-true, ltb-false, lt-ltb, le-ltb, eqb-true, ne-eqb}
-use lib.Dec.{leb}
-use lib.ListN.{length, getD, drop}
-use lib.Seq.{drop-cons, drop-length}
+use borrow.Author.Tests.{le-leb, lt-leb, ltb-false, le-ltb, eqb-true, ne-eqb}
+use lib.ListN.{length, getD}
 use Rattle.refusal.specs.Outcome.{refusal, Told, Outcome, accepted, refused, refuse, require, _>>=_, firstRefusal}
 use Rattle.refusal.proofs.Steps.{require-accepted, require-refused}
-use Rattle.refusal.proofs.First.{first-all, first-refused, first-found}
+use Rattle.refusal.proofs.First.{first-refused, first-found}
 use Rattle.grid.specs.Axis.{_to_, within, rises, axisNumber, axisNumbers, firstStep}
 use Rattle.grid.specs.declared.Range.{Range}
 use Rattle.grid.proofs.Every.{and-fst, and-snd}
 use Rattle.grid.proofs.Numbers.{Wrong, numbers-refused, number-right, number-outside, number-level}
 use Rattle.grid.specs.Rules.{InRange, AxisRules, FirstStep}
 use Rattle.grid.proofs.Axis.{in-range, within-range, not-in-range, not-within, rises-next, rises-of, axis-accepted, rules-accepted}
-use Rattle.component.specs.Bytes.{numberOf, pairs}
-use Rattle.component.specs.Field.{exactly, numbers, number, axis}
-use Rattle.component.specs.Sensor as sensors
-use Rattle.component.specs.Sensor.{sensorRanges, sensorNumber, sensorOf, sensor}
+use Rattle.fields.specs.Bytes.{numberOf, pairs}
+use Rattle.fields.specs.Field.{exactly, numbers, number, axis}
+use Rattle.fields.specs.Sensor.{sensor}
+use Rattle.sensor.specs.Sensor.{sensorRanges, SensorRules, sensorNumberCheck, sensorCheck, sensorOf, sensorNumbers}
+use Rattle.sensor.proofs.Sensors.{sensor-rules, sensor-accepted, nine-numbers}
 use Rattle.component.specs.Component.{rows}
-use Rattle.component.specs.declared.sensor.Sensor.{Sensor}
-use Rattle.component.proofs.Heads.{numbers-bounds}
-use Rattle.component.proofs.Pairs.{length-pairs}
-use Rattle.layout.specs.Layout.{twoBytes, numberBytes, sensorNumbers}
-use Rattle.layout.specs.Rules.{AreBytes, SensorRules}
+use Rattle.sensor.specs.declared.Sensor.{Sensor}
+use Rattle.fields.proofs.Heads.{numbers-bounds}
+use Rattle.fields.proofs.Pairs.{length-pairs}
+use Rattle.layout.specs.Layout.{twoBytes, numberBytes}
+use Rattle.layout.specs.Rules.{AreBytes}
 use Rattle.layout.specs.Faults.{NumberFault, AxisFault, TorqueFault, numbers-wrong, step-wrong, SensorFault, NoFault}
 use Rattle.layout.proofs.FieldBytes.{number-of-one, number-of-two, number-bytes-one, number-bytes-two, pairs-number-bytes, number-bytes-pairs}
 use Rattle.layout.proofs.OneField.{Decided, wrong, right, told-as, Checked}
@@ -165,62 +163,15 @@ pub torque-checked : Checked (numbers 2 64) torqueAxis numberBytes (λ ns place.
 torque-checked = record { decided = torque-decided; accepts = torque-accepts; refuses = torque-refused }
 
 -- ---- a sensor
--- the numbers of a list, as many as there are, from an index on
-listed : List ℕ → ℕ → ℕ → List ℕ
-listed ns i zero = []
-listed ns i (suc count) = getD ns i 0 ∷ listed ns (suc i) count
-
-listed-all : (ns : List ℕ) (i count : ℕ) → i + count ≡ length ns → listed ns i count ≡ drop i ns
-unfolding listed
-listed-all ns i zero e =
-    let s : i ≡ length ns = omega arith in
-    rw s (sym (drop-length ns))
-listed-all ns i (suc count) e =
-    let l : i < length ns = omega arith in
-    rw (drop-cons ns i 0 l, listed-all ns (suc i) count (omega arith))
-
-nine-numbers : (ns : List ℕ) → length ns ≡ 9 → sensorNumbers (sensorOf ns) ≡ ns
-unfolding listed
-nine-numbers ns h = listed-all ns 0 9 (sym h)
-
-sensor-rules : (ns : List ℕ) → sensors.sensorNumbers ns ≡ accepted tt → SensorRules (sensorOf ns)
-unfolding sensors.sensorNumbers sensorNumber
-sensor-rules ns e = record {
-  nominal = here 0 (omega arith);
-  sensitivity = here 1 (omega arith);
-  zero = here 2 (omega arith);
-  calibration = here 3 (omega arith);
-  advancement = here 4 (omega arith);
-  parasitic = here 5 (omega arith);
-  share = here 6 (omega arith);
-  difference = here 7 (omega arith);
-  span = here 8 (omega arith);
-}
-  where
-    here : (k : ℕ) → k < 9 → InRange (getD sensorRanges k (0 to 0)) (getD ns k 0)
-    here k l = in-range _ (getD ns k 0) (require-accepted _ 4 k (first-all (sensorNumber ns) 0 9 e k zero-le (omega arith)))
-
 sensor-accepts : (s : Sensor) (place : ℕ) → SensorRules s → sensor (numberBytes (sensorNumbers s)) place ≡ accepted s
-unfolding sensor sensors.sensorNumbers sensorNumber firstRefusal
-sensor-accepts s place r =
-    rw (
-      pairs-number-bytes (sensorNumbers s),
-      within-range _ _ (r .nominal),
-      within-range _ _ (r .sensitivity),
-      within-range _ _ (r .zero),
-      within-range _ _ (r .calibration),
-      within-range _ _ (r .advancement),
-      within-range _ _ (r .parasitic),
-      within-range _ _ (r .share),
-      within-range _ _ (r .difference),
-      within-range _ _ (r .span),
-    )
+unfolding sensor
+sensor-accepts s place r = rw (pairs-number-bytes (sensorNumbers s), sensor-accepted s r)
 
-sensor-fault : (body : List ℕ) (place : ℕ) (t : Told) → sensors.sensorNumbers (pairs body) ≡ refused t → SensorFault body place (refusal 4 (place + 2 * t .place))
-unfolding sensors.sensorNumbers sensorNumber
+sensor-fault : (body : List ℕ) (place : ℕ) (t : Told) → sensorCheck (pairs body) ≡ refused t → SensorFault body place (refusal 4 (place + 2 * t .place))
+unfolding sensorCheck sensorNumberCheck
 sensor-fault body place t e =
     let ns = pairs body in
-    let s = first-found (sensorNumber ns) 0 9 t e in
+    let s = first-found (sensorNumberCheck ns) 0 9 t e in
     let w = require-refused (within (getD sensorRanges (s .at) (0 to 0)) (getD ns (s .at) 0)) 4 (s .at) t (s .here) in
     record {
       index = s .at;
@@ -231,21 +182,21 @@ sensor-fault body place t e =
     }
 
 sensor-refused : (body : List ℕ) (place : ℕ) (t : Told) → SensorFault body place t → sensor body place ≡ refused t
-unfolding sensor sensors.sensorNumbers sensorNumber
+unfolding sensor sensorCheck sensorNumberCheck
 sensor-refused body place t f =
     let ns = pairs body in
     let i = f .index in
-    let stops : firstRefusal (sensorNumber ns) 0 9 ≡ refuse 4 i =
-    first-refused (sensorNumber ns) 9 i (refusal 4 i) (f .below) (λ k l. rw (within-range _ (getD ns k 0) (f .ranges k l)))
+    let stops : firstRefusal (sensorNumberCheck ns) 0 9 ≡ refuse 4 i =
+    first-refused (sensorNumberCheck ns) 9 i (refusal 4 i) (f .below) (λ k l. rw (within-range _ (getD ns k 0) (f .ranges k l)))
     (rw (not-within _ (getD ns i 0) (f .outside)))
     in
     told-as _ t _ (rw stops) (f .told)
 
 sensor-decided : (body : List ℕ) (place : ℕ) → AreBytes body → exactly 18 (length body) ≡ true
     → Decided (SensorFault body place) (λ (s : Sensor). (body ≡ numberBytes (sensorNumbers s)) × SensorRules s)
-sensor-decided body place b fits = go (sensors.sensorNumbers (pairs body)) refl
+sensor-decided body place b fits = go (sensorCheck (pairs body)) refl
   where
-    go : (o : Outcome (Unit {0})) → sensors.sensorNumbers (pairs body) ≡ o
+    go : (o : Outcome (Unit {0})) → sensorCheck (pairs body) ≡ o
         → Decided (SensorFault body place) (λ (s : Sensor). (body ≡ numberBytes (sensorNumbers s)) × SensorRules s)
     go (accepted u) e =
         let long = eqb-true (length body) 18 fits in

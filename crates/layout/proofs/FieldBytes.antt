@@ -7,7 +7,7 @@ use native.Mathlib.Omega.{arith}
 use native.Mathlib.Numerals.{add-one, add-two, add-three}
 use lib.ListN.{length, getD, drop, length-append, length-take, length-drop, take-append-drop}
 use lib.Seq.{take-append-seam, drop-append-seam, drop-cons, drop-drop, getD-take, getD-drop}
-use Rattle.component.specs.Bytes.{numberOf, pairs, between}
+use Rattle.fields.specs.Bytes.{numberOf, pairs, between}
 use Rattle.layout.specs.Layout.{twoBytes, numberBytes, fieldBytes}
 use Rattle.layout.specs.Rules.{AreBytes}
 use Rattle.layout.specs.Faults.{Stands, lengthAt}

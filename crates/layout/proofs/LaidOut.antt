@@ -1,19 +1,20 @@
 -- Fields laid out one after another stand in their places, and fields that stand in their places are those bytes. Assumes nothing.
-use Prim.Native.Nat.{ℕ, _+_, _-_, _*_, _/_, _%_, _≤_}
-use mathlib.Core.Path.{_≡_, refl, sym, ap, _∙_}
+use Prim.Native.Nat.{ℕ, _+_, _*_, _/_, _%_, _≤_}
+use mathlib.Core.Path.{_≡_, refl, _∙_}
 use mathlib.Core.Bool.{true}
 use mathlib.Core.List.{List, [], _∷_, _++_, append-nil, append-assoc}
 use native.Mathlib.Omega.{arith}
 use borrow.Author.Tests.{le-leb, eq-eqb, eqb-true}
-use lib.ListN.{length, getD, drop, length-append, drop-of-length-le}
+use lib.ListN.{length, drop, length-append, drop-of-length-le}
 use Rattle.grid.specs.Axis.{_to_}
 use Rattle.grid.specs.Rules.{InRange, AxisRules, FirstStep}
 use Rattle.grid.specs.declared.Range.{Range}
-use Rattle.component.specs.Field.{exactly, numbers}
+use Rattle.fields.specs.Field.{exactly, numbers}
 use Rattle.component.specs.Component.{Kind}
-use Rattle.component.specs.declared.sensor.Sensor.{Sensor}
-use Rattle.layout.specs.Layout.{twoBytes, numberBytes, fieldBytes, sensorNumbers}
-use Rattle.layout.specs.Rules.{SensorRules, Rules}
+use Rattle.sensor.specs.declared.Sensor.{Sensor}
+use Rattle.layout.specs.Layout.{twoBytes, numberBytes, fieldBytes}
+use Rattle.layout.specs.Rules.{Rules}
+use Rattle.sensor.specs.Sensor.{SensorRules, sensorNumbers}
 use Rattle.layout.specs.Faults.{Stands}
 use Rattle.layout.specs.Acceptance.{AxleStands, SpeedsStand, TorquesStand, SensorStands, AxesStand}
 use Rattle.layout.proofs.FieldBytes.{length-number-bytes, length-field-bytes, from-field, field-stands, after-field}

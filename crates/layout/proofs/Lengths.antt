@@ -1,6 +1,6 @@
 -- How long accepted data is, and that a beginning longer than that decides: the statements of specs/Length. Assumes nothing.
 use Prim.Native.Nat.{ℕ, _+_, _-_, _*_, _≤_, _<_}
-use mathlib.Core.Path.{_≡_, refl, sym, ap, _∙_}
+use mathlib.Core.Path.{_≡_, sym, ap, _∙_}
 use mathlib.Core.Bool.{Bool, true}
 use mathlib.Core.List.{List, _++_}
 use native.Mathlib.Omega.{arith}
@@ -9,17 +9,17 @@ use native.Mathlib.Nat.{mul-le-mul}
 use borrow.Author.Tests.{eqb-true}
 use lib.ListN.{length, getD, take, drop, length-append, length-take, length-drop, take-append-drop, List·getD-append}
 use lib.Seq.{take-all, take-append-le, drop-append-le, getD-take}
-use Rattle.refusal.specs.Outcome.{Told, accepted, refuse}
+use Rattle.refusal.specs.Outcome.{Told}
 use Rattle.refusal.proofs.Steps.{never}
-use Rattle.component.specs.Bytes.{between}
-use Rattle.component.specs.Field.{exactly, numbers}
+use Rattle.fields.specs.Bytes.{between}
+use Rattle.fields.specs.Field.{exactly, numbers}
 use Rattle.component.specs.Component.{Component, Kind, standard, measured, component}
-use Rattle.component.specs.declared.sensor.Sensor.{Sensor}
-use Rattle.component.proofs.Heads.{numbers-bounds}
+use Rattle.sensor.specs.declared.Sensor.{Sensor}
+use Rattle.fields.proofs.Heads.{numbers-bounds}
 use Rattle.layout.specs.Layout.{layout}
 use Rattle.layout.specs.Rules.{AreBytes, Rules}
 use Rattle.layout.specs.Faults.{Stands, HeadFault, head-incomplete, other-tag, none-left, other-length, body-incomplete, FieldFault, in-head, in-body}
-use Rattle.layout.specs.Acceptance.{AxleStands, SpeedsStand, TorquesStand, SensorStands, AxesStand, Fault, in-kind, in-line, in-ratio, in-speeds, in-torques, in-input, in-output, in-rows, after-torques, after-rows}
+use Rattle.layout.specs.Acceptance.{AxleStands, SpeedsStand, SensorStands, AxesStand, Fault, in-kind, in-line, in-ratio, in-speeds, in-torques, in-input, in-output, in-rows, after-torques, after-rows}
 use Rattle.layout.specs.Length.{longest, NoneLonger, BeginningDecides, RefusedWithMore, NotCutShort}
 use Rattle.layout.proofs.OneField.{wrong, right}
 use Rattle.layout.proofs.Runs.{fault-refused}

@@ -7,10 +7,10 @@ use native.Mathlib.Omega.{arith}
 use native.Mathlib.Decide.{decLe, ℕ-discrete}
 use lib.ListN.{length, getD, drop, take-append-drop}
 use lib.Seq.{take-append-seam, drop-drop}
-use Rattle.refusal.specs.Outcome.{refusal, Told, Outcome, accepted, refused, _>>=_}
-use Rattle.component.specs.Bytes.{numberOf, between}
-use Rattle.component.specs.Field.{head, field}
-use Rattle.component.proofs.Heads as heads
+use Rattle.refusal.specs.Outcome.{refusal, Told, Outcome, accepted, refused}
+use Rattle.fields.specs.Bytes.{numberOf, between}
+use Rattle.fields.specs.Field.{head, field}
+use Rattle.fields.proofs.Heads as heads
 use Rattle.layout.specs.Layout.{fieldBytes}
 use Rattle.layout.specs.Rules.{AreBytes}
 use Rattle.layout.specs.Faults.{Stands, lengthAt, HeadFault, head-incomplete, other-tag, none-left, other-length, body-incomplete, FieldFault, in-head, in-body}

@@ -1,21 +1,22 @@
 -- The fields in their order: what comes of fields that stand in their places, of the first that is wrong, and of bytes after the last. Assumes nothing.
-use Prim.Native.Nat.{ℕ, _+_, _*_, _≤_}
+use Prim.Native.Nat.{ℕ, _+_, _*_}
 use mathlib.Core.Path.{_≡_, refl, ap, _∙_, fun-ext}
 use mathlib.Core.Bool.{Bool, true, false}
 use mathlib.Core.List.{List, [], _∷_}
 use native.Mathlib.Omega.{arith}
-use borrow.Author.Tests.{le-leb, lt-leb, eqb-true}
+use borrow.Author.Tests.{lt-leb, eqb-true}
 use lib.Dec.{leb}
 use lib.ListN.{length}
 use Rattle.refusal.specs.Outcome.{Told, Outcome, accepted, refused, require, _>>=_}
 use Rattle.grid.specs.Axis.{_to_, firstStep}
 use Rattle.grid.specs.Rules.{InRange}
-use Rattle.component.specs.Bytes.{between}
-use Rattle.component.specs.Field.{Head, Field, head, field, exactly, numbers, number, axis}
-use Rattle.component.specs.Sensor.{sensor}
-use Rattle.component.specs.Component.{Component, Kind, standard, measured, Run, Axes, Rows, axleFields, axesFields, measuredFields, kindFields, component}
-use Rattle.component.specs.declared.sensor.Sensor.{Sensor}
-use Rattle.layout.specs.Layout.{numberBytes, sensorNumbers}
+use Rattle.fields.specs.Bytes.{between}
+use Rattle.fields.specs.Field.{Head, Field, head, field, exactly, numbers, number, axis}
+use Rattle.fields.specs.Sensor.{sensor}
+use Rattle.sensor.specs.Sensor.{sensorNumbers}
+use Rattle.component.specs.Component.{Component, Kind, measured, Run, AxesNumbers, Rows, axleFields, axesFields, measuredFields, kindFields, component}
+use Rattle.sensor.specs.declared.Sensor.{Sensor}
+use Rattle.layout.specs.Layout.{numberBytes}
 use Rattle.layout.specs.Rules.{AreBytes}
 use Rattle.layout.specs.Faults.{Stands}
 use Rattle.layout.specs.Acceptance.{AxleStands, SpeedsStand, TorquesStand, SensorStands, AxesStand, Fault, in-kind, in-line, in-ratio, in-speeds, in-torques, in-input, in-output, in-rows, after-torques, after-rows}
@@ -47,7 +48,7 @@ module _ {A B : Type 0} (test : A → Bool) (number : ℕ) (after : Field A → 
   by-head bytes check (refused t) = refl
 
 -- tags 4 and 5 with the first step tested in the body of tag 5
-abbrev axesTested : List ℕ → ℕ → Outcome (Run Axes)
+abbrev axesTested : List ℕ → ℕ → Outcome (Run AxesNumbers)
 axesTested bytes at = do
   speeds ← field bytes at 4 (numbers 2 32) (axis (1 to 3000))
   torques ← field bytes (speeds .next) 5 (numbers 2 64) torqueAxis
@@ -59,7 +60,7 @@ axesTested bytes at = do
 axes-tested : (bytes : List ℕ) (at : ℕ) → axesFields bytes at ≡ axesTested bytes at
 unfolding axesFields field
 axes-tested bytes at =
-    ap (λ (next : Field (List ℕ) → Outcome (Run Axes)). field bytes at 4 (numbers 2 32) (axis (1 to 3000)) >>= next)
+    ap (λ (next : Field (List ℕ) → Outcome (Run AxesNumbers)). field bytes at 4 (numbers 2 32) (axis (1 to 3000)) >>= next)
     (fun-ext λ speeds. by-head firstStep 6 (λ torques. accepted (record { value = record { speeds = speeds .value; torques = torques .value }; next = torques .next })) bytes (axis (0 to 50000)) (head bytes (speeds .next) 5 (numbers 2 64)))
 
 module _ (bytes : List ℕ) where

@@ -10,9 +10,9 @@ use lib.Dec.{leb}
 use lib.ListN.{length, drop, length-append, drop-of-length-le}
 use Rattle.refusal.specs.Outcome.{refusal, accepted, refuse, require, _>>=_}
 use Rattle.refusal.proofs.Steps.{never, same-value, same-refusal}
-use Rattle.component.specs.Field.{exactly}
+use Rattle.fields.specs.Field.{exactly}
 use Rattle.component.specs.Component.{Component, Kind, standard, measured, kindNumber, Rows, kindFields, component}
-use Rattle.component.specs.declared.sensor.Sensor.{Sensor}
+use Rattle.sensor.specs.declared.Sensor.{Sensor}
 use Rattle.layout.specs.Layout.{layout, measuredBytes}
 use Rattle.layout.specs.Rules.{AreBytes, KindRules, Rules}
 use Rattle.layout.specs.Faults.{Stands}

@@ -6,11 +6,12 @@ use lib.ListN.{length}
 use Rattle.refusal.specs.Outcome.{refusal, Told, accepted, refused}
 use Rattle.grid.specs.Axis.{_to_}
 use Rattle.grid.specs.Rules.{InRange, AxisRules, FirstStep}
-use Rattle.component.specs.Field.{exactly, numbers}
+use Rattle.fields.specs.Field.{exactly, numbers}
 use Rattle.component.specs.Component.{Component, component}
-use Rattle.component.specs.declared.sensor.Sensor.{Sensor}
-use Rattle.layout.specs.Layout.{twoBytes, numberBytes, sensorNumbers, layout}
-use Rattle.layout.specs.Rules.{AreBytes, SensorRules, Rules}
+use Rattle.sensor.specs.declared.Sensor.{Sensor}
+use Rattle.layout.specs.Layout.{twoBytes, numberBytes, layout}
+use Rattle.layout.specs.Rules.{AreBytes, Rules}
+use Rattle.sensor.specs.Sensor.{SensorRules, sensorNumbers}
 use Rattle.layout.specs.Faults.{Stands, FieldFault, NumberFault, AxisFault, TorqueFault, SensorFault, NoFault}
 
 -- ---- fields that stand in their places and keep their rules

@@ -9,8 +9,8 @@ use Rattle.refusal.specs.Outcome.{Told, refusal}
 use Rattle.grid.specs.Axis.{_to_}
 use Rattle.grid.specs.Rules.{InRange, AxisRules}
 use Rattle.grid.specs.declared.Range.{Range}
-use Rattle.component.specs.Bytes.{numberOf, pairs, between}
-use Rattle.component.specs.Sensor.{sensorRanges}
+use Rattle.fields.specs.Bytes.{numberOf, pairs, between}
+use Rattle.sensor.specs.Sensor.{sensorRanges}
 use Rattle.layout.specs.Layout.{fieldBytes}
 
 -- ---- one field

@@ -3,7 +3,7 @@ use Prim.Native.Nat.{ℕ, _/_, _%_}
 use mathlib.Core.List.{List, [], _∷_, _++_}
 use lib.ListN.{length}
 use Rattle.component.specs.Component.{Component, Kind, standard, measured, kindNumber}
-use Rattle.component.specs.declared.sensor.Sensor.{Sensor}
+use Rattle.sensor.specs.Sensor.{sensorNumbers}
 
 -- a number as two bytes, "most significant byte first"
 abbrev pub twoBytes : ℕ → List ℕ
@@ -17,20 +17,6 @@ numberBytes (n ∷ ns) = twoBytes n ++ numberBytes ns
 -- "one byte tag, two bytes length, then the body"
 unfoldable pub fieldBytes : ℕ → List ℕ → List ℕ
 fieldBytes tag body = tag ∷ (twoBytes (length body) ++ body)
-
--- a sensor's nine numbers in their order
-abbrev pub sensorNumbers : Sensor → List ℕ
-sensorNumbers s =
-    s .nominal
-    ∷ s .sensitivity
-    ∷ s .zero
-    ∷ s .calibration
-    ∷ s .advancement
-    ∷ s .parasitic
-    ∷ s .share
-    ∷ s .difference
-    ∷ s .span
-    ∷ []
 
 -- tags 6 to 8, "measured only"
 unfoldable pub measuredBytes : Kind → List ℕ

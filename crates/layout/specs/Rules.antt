@@ -6,23 +6,11 @@ use lib.ListN.{length, getD}
 use Rattle.grid.specs.Axis.{_to_}
 use Rattle.grid.specs.Rules.{InRange, AxisRules, FirstStep}
 use Rattle.component.specs.Component.{Component, Kind, standard, measured}
-use Rattle.component.specs.declared.sensor.Sensor.{Sensor}
+use Rattle.sensor.specs.Sensor.{SensorRules}
 
 -- every number is a byte
 abbrev pub AreBytes : List ℕ → Type 0
 AreBytes bytes = (i : ℕ) → i < length bytes → getD bytes i 0 < 256
-
--- tags 6 and 7: N, w, z, c, k, s, p, d and R
-pub record SensorRules (s : Sensor) : Type 0 where
-  pub nominal : InRange (1 to 50000) (s .nominal)
-  pub sensitivity : InRange (0 to 10000) (s .sensitivity)
-  pub zero : InRange (0 to 10000) (s .zero)
-  pub calibration : InRange (0 to 10000) (s .calibration)
-  pub advancement : InRange (1000 to 10000) (s .advancement)
-  pub parasitic : InRange (0 to 10000) (s .parasitic)
-  pub share : InRange (0 to 1000) (s .share)
-  pub difference : InRange (0 to 500) (s .difference)
-  pub span : InRange (10 to 100) (s .span)
 
 -- tag 8: "for each speed, for each torque within it, one row: input torque and output torque, 4 bytes each".
 -- The rows start after 64 bytes of heads and other numbers, and two bytes for each axis number.

@@ -2,15 +2,16 @@
 use Rattle.grid.specs.Lists.{joined}
 use Prim.Native.Nat.{ℕ}
 use mathlib.Core.Path.{_≡_, refl}
-use mathlib.Core.List.{List, [], _∷_, _++_}
-use Rattle.refusal.specs.Outcome.{Outcome, accepted, refuse}
+use mathlib.Core.List.{List, [], _∷_}
+use Rattle.refusal.specs.Outcome.{Outcome, accepted, refuse, refusal}
 use Rattle.grid.specs.declared.Grid.{Grid}
 use Rattle.grid.specs.Every.{every}
 use Rattle.grid.specs.Axis.{within, rises, firstStep, validNumbers}
 use Rattle.grid.specs.Map.{validSpeeds, validTorques, validGrid, validEntries, validMap}
 use Rattle.grid.specs.Parts.{gridOf}
-use Rattle.listing.specs.Bytes.{bytes}
-use Rattle.listing.specs.Listing.{digitCountBy, digitCount, decimal, hundredths, header, line, row, rows, listing, refusalLine, fitted, listed}
+use Rattle.buffer.specs.Bytes.{bytes}
+use Rattle.listing.specs.Listing.{header, line, row, rows, listing, refusalLine, fitted, listed}
+use Rattle.buffer.specs.Digits.{digitCountBy, digitCount, decimal, hundredths}
 
 -- what is computed, and what is expected
 data Example : Type 0 where
@@ -38,8 +39,8 @@ examples =
     ∷ text (hundredths 5) (bytes "0.05")
     ∷ text (hundredths 100) (bytes "1.00")
     ∷ text (hundredths 10000000) (bytes "100000.00")
-    ∷ text (refusalLine (record { number = 2; place = 0 })) (bytes "refused 2 at 0\n")
-    ∷ text (refusalLine (record { number = 11; place = 18446744073709551615 })) (bytes "refused 11 at 18446744073709551615\n")
+    ∷ text (refusalLine (refusal 2 0)) (bytes "refused 2 at 0\n")
+    ∷ text (refusalLine (refusal 11 18446744073709551615)) (bytes "refused 11 at 18446744073709551615\n")
     ∷ []
 
 hold : Hold examples

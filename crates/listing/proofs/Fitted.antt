@@ -4,9 +4,8 @@ use mathlib.Core.Path.{_≡_}
 use mathlib.Core.Bool.{true, false}
 use mathlib.Core.List.{List}
 use borrow.Author.Tests.{le-leb, lt-leb}
-use lib.Dec.{leb}
 use lib.ListN.{length}
-use Rattle.refusal.specs.Outcome.{Outcome, accepted, refuse}
+use Rattle.refusal.specs.Outcome.{accepted, refuse}
 use Rattle.grid.specs.declared.Grid.{Grid}
 use Rattle.grid.specs.Map.{validMap}
 use Rattle.listing.specs.Listing.{listing, fitted, listed}

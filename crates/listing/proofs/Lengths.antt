@@ -1,5 +1,5 @@
 -- How long the texts are. Assumes nothing.
-use Prim.Native.Nat.{ℕ, zero, suc, _+_, _*_, _/_, _^_, _≤_, _<_}
+use Prim.Native.Nat.{ℕ, zero, suc, _+_, _*_, _/_, _≤_, _<_}
 use mathlib.Core.Path.{_≡_}
 use mathlib.Core.Bool.{true}
 use mathlib.Core.List.{List}
@@ -7,20 +7,14 @@ use native.Mathlib.Nat.{suc-mul, mul-le-mul}
 use native.Mathlib.Omega.{arith}
 use lib.ListN.{length, getD, length-append}
 use Rattle.refusal.specs.Outcome.{Told}
-use Rattle.refusal.specs.Table.{number, place, told}
-use Rattle.refusal.specs.declared.Refusal.{Refusal}
-use Rattle.refusal.specs.declared.Refusal.the-variants.{Incomplete, WrongTag, WrongLength, OutOfRange, NotRising, FirstTorqueAboveStep, AboveNominal, OffAxisTorque, NegativeLoss, EntryTooLarge, TooShort, TrailingBytes, SpeedOutside, TorqueAbove, NotAMap}
 use Rattle.grid.proofs.Points.{row-within}
 use Rattle.grid.specs.declared.Grid.{Grid}
 use Rattle.grid.specs.Map.{validMap}
 use Rattle.grid.proofs.Map.{map-facts}
-use Rattle.listing.specs.Listing.{digitCount, decimal, hundredths, header, line, row, rows, lineAt, rowAt, listing, refusalLine}
+use Rattle.listing.specs.Listing.{header, line, row, rows, lineAt, rowOfSpeed, listing, refusalLine}
+use Rattle.buffer.specs.Digits.{decimal, hundredths}
 use Rattle.grid.specs.Lists.{joined}
-use Rattle.listing.proofs.Digits.{length-decimal, count-most}
-
-pub length-hundredths : (n : ℕ) → length (hundredths n) ≡ digitCount (n / 100) + 3
-unfolding hundredths
-length-hundredths n = simp length-append (omega (arith, length-decimal (n / 100)))
+use Rattle.buffer.proofs.Digits.{length-decimal, count-most, length-hundredths}
 
 pub length-line : (speed torque loss : ℕ) → length (line speed torque loss) ≡ length (decimal speed) + length (decimal torque) + length (hundredths loss) + 3
 unfolding line
@@ -60,35 +54,7 @@ listing-most grid entries e =
     let n = grid .torques .count in
     let each : (i : ℕ) → i < m → (j : ℕ) → j < n → length (lineAt (getD speeds i 0) torques entries (i * n) j) ≤ 21 =
     λ i h j l. line-most _ _ _ (map .axes .speeds .ranges i h .1) (map .axes .torques .ranges j l .1) (map .small (i * n + j) (omega (arith, row-within i m n h))) in
-    let all : length (joined (rowAt speeds torques n entries) m) ≤ m * (n * 21) =
-    joined-most (rowAt speeds torques n entries) (n * 21) m (λ i h. joined-most (lineAt (getD speeds i 0) torques entries (i * n)) 21 n (each i h)) in
+    let all : length (joined (rowOfSpeed speeds torques n entries) m) ≤ m * (n * 21) =
+    joined-most (rowOfSpeed speeds torques n entries) (n * 21) m (λ i h. joined-most (lineAt (getD speeds i 0) torques entries (i * n)) 21 n (each i h)) in
     let widest : n * 21 ≤ 1344 = omega (arith, map .axes .torques .at-most) in
     omega (arith, length-listing grid entries, all, mul-le-mul (map .axes .speeds .at-most) widest)
-
--- the line of a refusal takes at most 40 bytes
-pub refusal-line-most : (t : Told) → t .number < 100 → t .place < 2 ^ 64 → length (refusalLine t) ≤ 40
-refusal-line-most t a b =
-    let n = count-most 1 (t .number) (omega arith) in
-    let p = count-most 19 (t .place) (omega arith) in
-    omega (arith, length-refusal-line t, length-decimal (t .number), length-decimal (t .place))
-
--- no number of the table has three digits
-number-small : (x : Refusal) → number x < 100
-number-small (Incomplete p) = omega arith
-number-small (WrongTag p) = omega arith
-number-small (WrongLength p) = omega arith
-number-small (OutOfRange p) = omega arith
-number-small (NotRising p) = omega arith
-number-small (FirstTorqueAboveStep p) = omega arith
-number-small (AboveNominal p) = omega arith
-number-small (OffAxisTorque p) = omega arith
-number-small (NegativeLoss p) = omega arith
-number-small (EntryTooLarge p) = omega arith
-number-small (TooShort p) = omega arith
-number-small (TrailingBytes p) = omega arith
-number-small SpeedOutside = omega arith
-number-small TorqueAbove = omega arith
-number-small NotAMap = omega arith
-
-pub told-line-most : (x : Refusal) → place x < 2 ^ 64 → length (refusalLine (told x)) ≤ 40
-told-line-most x h = refusal-line-most (told x) (number-small x) h

@@ -1,8 +1,8 @@
 -- What the code's answers say in document 01's terms, and what the lent buffer then holds.
 use Prim.Native.Nat.{ℕ}
-use mathlib.Core.List.{List, _++_}
-use lib.ListN.{length, drop}
+use mathlib.Core.List.{List}
 use Rattle.refusal.specs.Outcome.{Outcome, accepted, refused}
+use Rattle.grid.specs.Lists.{overwritten}
 use Rattle.refusal.specs.Table.{told}
 use Rattle.listing.specs.declared.ListingAnswer.{ListingAnswer}
 use Rattle.listing.specs.declared.ListingAnswer.the-variants.{Length, Refused}
@@ -13,5 +13,5 @@ listingAnswerOf (Refused x) = refused (told x)
 
 -- "written from the start of a lent buffer .. nothing past that is touched"; a refusal leaves the buffer as it was
 abbrev pub contentOf : Outcome ℕ → (text old : List ℕ) → List ℕ
-contentOf (accepted n) text old = text ++ drop (length text) old
+contentOf (accepted n) text old = overwritten text old
 contentOf (refused t) text old = old

@@ -1,4 +1,2 @@
-pub mod Bytes
 pub mod Listing
 pub mod Answers
-pub mod Placed

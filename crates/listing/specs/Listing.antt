@@ -1,40 +1,14 @@
 -- Document 01, "The map program" and "Refusals": the listing of a map and the line of a refusal, as bytes.
-use Prim.Native.Nat.{ℕ, zero, suc, _+_, _*_, _/_, _%_}
-use mathlib.Core.Bool.{true, false}
-use mathlib.Core.List.{List, [], _∷_, _++_}
-use lib.Dec.{leb, ltb}
+use Prim.Native.Nat.{ℕ, _+_, _*_}
+use mathlib.Core.List.{List, _++_}
+use lib.Dec.{leb}
 use lib.ListN.{length, getD}
 use Rattle.refusal.specs.Outcome.{Told, Outcome, accepted, require, _>>=_}
 use Rattle.grid.specs.declared.Grid.{Grid}
 use Rattle.grid.specs.Lists.{joined}
 use Rattle.grid.specs.Map.{validMap}
-use Rattle.listing.specs.Bytes.{bytes}
-
--- ---- numbers
--- the last count digits of n, the most significant first; 48 is the code of `0`
-abbrev pub lastDigits : (count n : ℕ) → List ℕ
-lastDigits zero n = []
-lastDigits (suc count) n = lastDigits count (n / 10) ++ ((48 + n % 10) ∷ [])
-
--- how many digits n has, found by at most so many divisions by 10
-unfoldable pub digitCountBy : (divisions n : ℕ) → ℕ
-digitCountBy zero n = 1
-digitCountBy (suc divisions) n =
-    elim (ltb n 10) [
-      | true ↦ 1
-      | false ↦ suc (digitCountBy divisions (n / 10))
-    ]
-
-unfoldable pub digitCount : ℕ → ℕ
-digitCount n = digitCountBy n n
-
--- a number in decimal digits, without leading zeros; 0 is `0`
-unfoldable pub decimal : ℕ → List ℕ
-decimal n = lastDigits (digitCount n) n
-
--- hundredths of Nm: "loss in Nm with two digits after the point"
-unfoldable pub hundredths : ℕ → List ℕ
-hundredths n = decimal (n / 100) ++ bytes "." ++ lastDigits 2 n
+use Rattle.buffer.specs.Bytes.{bytes}
+use Rattle.buffer.specs.Digits.{decimal, hundredths}
 
 -- ---- the listing
 -- the header's bytes, without its line feed
@@ -54,12 +28,12 @@ unfoldable pub row : (speed : ℕ) (torques : List ℕ) (torqueCount : ℕ) (ent
 row speed torques torqueCount entries first = joined (lineAt speed torques entries first) torqueCount
 
 -- the lines of speed i
-abbrev pub rowAt : (speeds torques : List ℕ) (torqueCount : ℕ) (entries : List ℕ) (i : ℕ) → List ℕ
-rowAt speeds torques torqueCount entries i = row (getD speeds i 0) torques torqueCount entries (i * torqueCount)
+abbrev pub rowOfSpeed : (speeds torques : List ℕ) (torqueCount : ℕ) (entries : List ℕ) (i : ℕ) → List ℕ
+rowOfSpeed speeds torques torqueCount entries i = row (getD speeds i 0) torques torqueCount entries (i * torqueCount)
 
 -- "one line for each entry in their order": "for each speed, for each torque within it"
 unfoldable pub rows : (speeds : List ℕ) (speedCount : ℕ) (torques : List ℕ) (torqueCount : ℕ) (entries : List ℕ) → List ℕ
-rows speeds speedCount torques torqueCount entries = joined (rowAt speeds torques torqueCount entries) speedCount
+rows speeds speedCount torques torqueCount entries = joined (rowOfSpeed speeds torques torqueCount entries) speedCount
 
 -- "the listing: a header, then one line for each entry"
 unfoldable pub listing : Grid → List ℕ → List ℕ

@@ -17,7 +17,7 @@ use Rattle.grid.specs.declared.Grid.{Grid}
 use Rattle.grid.specs.declared.Range.{Range}
 use Rattle.grid.specs.Rules.{AxisRules}
 use Rattle.grid.proofs.Map as map
-use Rattle.lookup.specs.Cell.{Point, Within, Has}
+use Rattle.cell.specs.Cell.{Point, Within, Has}
 use Rattle.lookup.specs.Loss.{lastUpTo, neighbour, cellOf}
 use Rattle.lookup.proofs.Search.{last-le, last-holds, last-next, last-none}
 
@@ -27,7 +27,7 @@ pub record Rising (ns : List ℕ) : Type 0 where
   pub rises : (k : ℕ) → k + 1 < length ns → getD ns k 0 < getD ns (k + 1) 0
 
 -- both axes of a map, with "The first torque is at most the second less the first."
-pub record Axes (ss ts : List ℕ) : Type 0 where
+pub record RisingAxes (ss ts : List ℕ) : Type 0 where
   pub speeds : Rising ss
   pub torques : Rising ts
   pub step : getD ts 0 0 ≤ getD ts 1 0 - getD ts 0 0
@@ -58,7 +58,7 @@ module _ (range : Range) (most : ℕ) (ns : List ℕ) (count : ℕ) (f : AxisRul
         rw (getD-take count ns k 0 g, getD-take count ns (k + 1) 0 h) (f .rising k h);
   }
 
-pub grid-axes : (grid : Grid) → validGrid grid ≡ true → Axes (speedsOf (grid .speeds)) (torquesOf (grid .torques))
+pub grid-axes : (grid : Grid) → validGrid grid ≡ true → RisingAxes (speedsOf (grid .speeds)) (torquesOf (grid .torques))
 grid-axes grid e =
     let f = map.grid-facts grid e in
     let n = grid .torques .count in
@@ -71,7 +71,7 @@ grid-axes grid e =
       step = rw (getD-take n ns 0 0 h, getD-take n ns 1 0 g) (f .step);
     }
 
-pub map-axes : (grid : Grid) (entries : List ℕ) → validMap grid entries ≡ true → Axes (speedsOf (grid .speeds)) (torquesOf (grid .torques))
+pub map-axes : (grid : Grid) (entries : List ℕ) → validMap grid entries ≡ true → RisingAxes (speedsOf (grid .speeds)) (torquesOf (grid .torques))
 map-axes grid entries e =
     grid-axes grid (map.grid-of grid (map.map-facts grid entries e .axes))
 
@@ -133,7 +133,7 @@ module _ (ns : List ℕ) (r : Rising ns) (scale v : ℕ) where
 -- ---- the cell of a point
 
 -- within the limits there is always a cell that has the point
-pub cell-has : (speeds torques : List ℕ) → Axes speeds torques → (p : Point) → Within speeds torques p → Has speeds torques p (cellOf speeds torques p)
+pub cell-has : (speeds torques : List ℕ) → RisingAxes speeds torques → (p : Point) → Within speeds torques p → Has speeds torques p (cellOf speeds torques p)
 unfolding cellOf
 cell-has speeds torques axes p w = record {
   speed-in = neighbour-in speeds (axes .speeds) 10 (p .speed);

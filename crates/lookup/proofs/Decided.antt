@@ -1,26 +1,23 @@
 -- A question to a map is answered exactly when no refusal applies: the statement of specs/Acceptance. Assumes nothing.
-use Prim.Native.Nat.{ℕ, _-_, _*_, _<_}
-use mathlib.Core.Path.{_≡_, sym, _∙_}
+use Prim.Native.Nat.{ℕ, _<_}
+use mathlib.Core.Path.{_≡_, sym}
 use mathlib.Core.Bool.{Bool, true, false, _&&_}
 use mathlib.Core.List.{List}
 use mathlib.Core.Logic.{_⊎_, inl, inr, ⊎-elim}
 use native.Mathlib.Omega.{arith}
 use borrow.Author.Tests.{leb-true, leb-false}
 use lib.Dec.{leb}
-use lib.ListN.{length, getD}
-use Rattle.refusal.specs.Outcome.{Told, accepted, refused, require, _>>=_}
+use Rattle.refusal.specs.Outcome.{Told, accepted, refused}
 use Rattle.refusal.proofs.Steps.{never, same-value, test-accepted, test-refused}
-use Rattle.grid.specs.Map.{speedsOf, torquesOf, validGrid, validMap}
-use Rattle.grid.specs.Rules.{GridRules, MapRules}
+use Rattle.grid.specs.Map.{validGrid, validMap}
 use Rattle.grid.specs.declared.Grid.{Grid}
 use Rattle.grid.proofs.Every.{and-fst, and-snd, and-not}
 use Rattle.grid.proofs.Map.{grid-facts, grid-of, grid-not, map-facts, map-of, map-not}
-use Rattle.lookup.specs.Cell.{Point}
-use Rattle.lookup.specs.Loss.{lossAt, lossAnswer}
+use Rattle.cell.specs.Cell.{Point}
+use Rattle.lookup.specs.Loss.{lossAnswer}
 use Rattle.lookup.specs.Nearest.{nearestPoint, nearestAnswer}
 use Rattle.lookup.specs.Acceptance.{lowestSpeed, highestSpeed, highestTorque, QueryFault, not-a-map, speed-outside, torque-above, LossDecided, NearestDecided, QueriesDecided}
 use Rattle.lookup.proofs.Queries.{map-refused, speed-refused, torque-refused, loss-answered, answered-within}
-use Rattle.lookup.proofs.Nearness.{grid-refused}
 
 -- a test that fails does not hold
 fails : {P : Type 0} (b : Bool) → b ≡ false → b ≡ true → P

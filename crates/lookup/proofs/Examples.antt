@@ -11,8 +11,9 @@ use Rattle.grid.specs.Axis.{within, rises, firstStep, validNumbers}
 use Rattle.grid.specs.Map.{validSpeeds, validTorques, validGrid, validEntries, validMap}
 use Rattle.grid.specs.Parts.{gridOf}
 use Rattle.grid.specs.declared.Grid.{Grid}
-use Rattle.lookup.specs.Cell.{Point, share, weight, sum, index, corners}
-use Rattle.lookup.specs.Loss.{lastUpTo, neighbour, cellOf, ceiling, lossAt, lossAnswer}
+use Rattle.cell.specs.Cell.{Point, share, weight, sum, index, corners}
+use Rattle.lookup.specs.Loss.{lastUpTo, neighbour, cellOf, lossAt, lossAnswer}
+use Rattle.cell.specs.Rounding.{ceiling}
 use Rattle.lookup.specs.Nearest.{GridPoint, nearestIndex, nearestNumber, nearestAnswer}
 
 -- speeds 100 and 200, and two torques

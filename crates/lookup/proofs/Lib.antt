@@ -1,8 +1,6 @@
 -- The crate's own laws.
 pub mod Search
 pub mod Axes
-pub mod Signs
-pub mod Rounding
 pub mod Weights
 pub mod Lines
 pub mod Queries

@@ -9,8 +9,8 @@ use native.Mathlib.Nat.{mul-pos, le-refl, mul-lt-mul-of-pos-left}
 use lib.ListN.{length, getD}
 use Rattle.arith.specs.Fraction.{Fraction, _⊕_, _⊗_, _≼_}
 use Rattle.arith.proofs.Fractions.{Is, is-itself, is-also, is-expanded, is-sum, is-product, at-most, at-most-itself, at-most-trans}
-use Rattle.lookup.specs.Cell.{Point, Cell, Has, lower, upper, sum, index, corners}
-use Rattle.lookup.proofs.Axes.{Rising, Axes, rise-lt}
+use Rattle.cell.specs.Cell.{Point, Cell, Has, lower, upper, sum, index, corners}
+use Rattle.lookup.proofs.Axes.{Rising, RisingAxes, rise-lt}
 use Rattle.lookup.proofs.Weights.{is-weight, wide, tall}
 
 -- the same value
@@ -78,7 +78,7 @@ module _ {t₀ t₁ t₂ t₃ : Fraction} {a a′ b b′ D : ℕ} where
 abbrev cell : ℕ → ℕ → Cell
 cell i j = record { speed = i; torque = j }
 
-module _ (speeds torques : List ℕ) (axes : Axes speeds torques) (p : Point) (F : ℕ → ℕ → Fraction) where
+module _ (speeds torques : List ℕ) (axes : RisingAxes speeds torques) (p : Point) (F : ℕ → ℕ → Fraction) where
   -- the sum in a cell, with F at the points of the grid
   unfoldable sumAt : ℕ → ℕ → Fraction
   sumAt i j = sum speeds torques p (cell i j) (corners F (cell i j))

@@ -14,9 +14,9 @@ use lib.Seq.{getD-take, length-take-le}
 use Rattle.refusal.specs.Outcome.{accepted, refuse}
 use Rattle.grid.specs.Map.{speedsOf, torquesOf, validGrid}
 use Rattle.grid.specs.declared.Grid.{Grid}
-use Rattle.lookup.specs.Cell.{Point}
+use Rattle.cell.specs.Cell.{Point}
 use Rattle.lookup.specs.Nearest.{distance, nearestIndex, nearestNumber, GridPoint, nearestAnswer}
-use Rattle.lookup.proofs.Axes.{Rising, Axes, grid-axes, rise-le}
+use Rattle.lookup.proofs.Axes.{Rising, grid-axes, rise-le}
 
 -- ---- one step of the search
 

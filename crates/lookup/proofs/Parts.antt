@@ -1,6 +1,6 @@
 -- A query on a grid that is lent in parts: what the numbers in its arrays tell of the answer. Assumes nothing.
 use Prim.Native.Nat.{ℕ, _+_, _-_, _*_, _≤_, _<_}
-use mathlib.Core.Path.{_≡_, refl, sym, ap, _∙_}
+use mathlib.Core.Path.{_≡_, sym}
 use mathlib.Core.Bool.{true}
 use mathlib.Core.List.{List}
 use mathlib.Core.Logic.{inl, inr}
@@ -14,20 +14,18 @@ use Rattle.grid.specs.Map.{validMap}
 use Rattle.grid.specs.Parts.{gridOf}
 use Rattle.grid.specs.Rules.{MapRules, GridRules}
 use Rattle.grid.proofs.Map.{map-facts}
-use Rattle.lookup.specs.Cell.{Point, Within, Cell}
-use Rattle.lookup.specs.Loss.{neighbour, cellOf, ceiling, lossAt, lossAnswer}
-use Rattle.lookup.specs.Interpolation.{cellNumbers, interpolation, CellThere, CellBounds}
-use Rattle.lookup.specs.declared.CellNumbers.{CellNumbers}
-use Rattle.lookup.proofs.Axes.{Axes, count-taken, map-axes, neighbour-in, cell-has}
+use Rattle.cell.specs.Cell.{Point, Within, Cell}
+use Rattle.lookup.specs.Loss.{neighbour, cellOf, lossAt, lossAnswer}
+use Rattle.cell.specs.Rounding.{ceiling}
+use Rattle.cell.specs.Interpolation.{cellNumbers, interpolation, CellThere, CellBounds}
+use Rattle.cell.specs.declared.CellNumbers.{CellNumbers}
+use Rattle.lookup.proofs.Axes.{RisingAxes, count-taken, map-axes, neighbour-in, cell-has}
 use Rattle.lookup.proofs.Queries.{speed-refused, torque-refused}
+use Rattle.cell.proofs.Indices.{row}
 use Rattle.lookup.proofs.Weights.{ceiling-interpolation}
 
 in-grid : (i j n m : ℕ) → i + 1 < n → j + 1 < m → i * m + j + m + 1 < n * m
 in-grid i j n m p q = let h : i + 2 ≤ n = omega arith in omega (arith, add-mul i 2 m, mul-le-mul-right m h)
-
--- the index of the next speed's row
-pub row : (i j m : ℕ) → (i + 1) * m + j ≡ i * m + j + m
-row i j m = omega arith
 
 module _ (s : List ℕ) (n : ℕ) (t : List ℕ) (m : ℕ) (entries : List ℕ) (valid : validMap (gridOf s n t m) entries ≡ true) where
   map : MapRules (gridOf s n t m) entries
@@ -42,7 +40,7 @@ module _ (s : List ℕ) (n : ℕ) (t : List ℕ) (m : ℕ) (entries : List ℕ) 
   torques-taken : length (take m t) ≡ m
   torques-taken = count-taken _ _ t m (facts .torques)
 
-  axes : Axes (take n s) (take m t)
+  axes : RisingAxes (take n s) (take m t)
   axes = map-axes (gridOf s n t m) entries valid
 
   -- the ends of both axes

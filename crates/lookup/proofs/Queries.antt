@@ -1,7 +1,7 @@
 -- What a query answers, and that any cell that has the point gives the same. Assumes nothing.
 use Prim.Native.Nat.{ℕ, _-_, _*_, _≤_, _<_}
-use mathlib.Core.Path.{_≡_, refl, sym}
-use mathlib.Core.Bool.{Bool, true, false, _&&_}
+use mathlib.Core.Path.{_≡_, sym}
+use mathlib.Core.Bool.{true, false, _&&_}
 use mathlib.Core.List.{List}
 use mathlib.Core.Logic.{_⊎_, inl, inr}
 use borrow.Author.Tests.{le-leb, lt-leb, leb-true}
@@ -15,14 +15,14 @@ use Rattle.refusal.proofs.Steps.{test-accepted, same-value}
 use Rattle.grid.proofs.Every.{and-false, and-fst, and-snd}
 use Rattle.grid.specs.Map.{speedsOf, torquesOf, validMap}
 use Rattle.grid.specs.declared.Grid.{Grid}
-use Rattle.lookup.specs.Cell.{Point, Within, Cell, Has, sum, corners, entryAt}
+use Rattle.cell.specs.Cell.{Point, Within, Cell, Has, sum, corners, entryAt}
 use Rattle.lookup.specs.Loss.{cellOf, lossAt, lossAnswer}
-use Rattle.lookup.proofs.Axes.{Axes, cell-has}
-use Rattle.lookup.proofs.Rounding.{ceiling-rounds}
+use Rattle.lookup.proofs.Axes.{RisingAxes, cell-has}
+use Rattle.cell.proofs.Rounding.{ceiling-rounds}
 use Rattle.lookup.proofs.Lines.{same-sum}
 
 -- in every cell that has the point, the loss is the weighted sum of the entries at the corners, rounded up once
-pub loss-rounds : (speeds torques entries : List ℕ) → Axes speeds torques → (p : Point) → Within speeds torques p → (k : Cell) → Has speeds torques p k →
+pub loss-rounds : (speeds torques entries : List ℕ) → RisingAxes speeds torques → (p : Point) → Within speeds torques p → (k : Cell) → Has speeds torques p k →
     RoundsUp (sum speeds torques p k (corners (λ i j. whole (entryAt (length torques) entries i j)) k)) (lossAt speeds torques entries p)
 unfolding lossAt
 loss-rounds speeds torques entries axes p w k h =

@@ -1,17 +1,17 @@
 -- The values of shares, weights and weighted sums in a cell that has the point. Assumes nothing.
-use Prim.Native.Nat.{ℕ, _+_, _-_, _*_, _≤_, _<_}
+use Prim.Native.Nat.{ℕ, _+_, _-_, _*_, _<_}
 use mathlib.Core.Path.{_≡_, ap}
 use mathlib.Core.List.{List}
 use native.Mathlib.Omega.{arith}
 use native.Mathlib.Nat.{mul-pos}
 use lib.ListN.{length, getD}
-use Rattle.arith.specs.Fraction.{Fraction, whole, _⊕_, _⊗_}
+use Rattle.arith.specs.Fraction.{Fraction, whole, _⊗_}
 use Rattle.arith.proofs.Fractions.{Is, is-less, is-whole, is-also, is-sum, is-product}
-use Rattle.lookup.specs.Cell.{Point, Cell, Has, Side, lower, upper, share, weight, sum, index, corners, entryAt}
-use Rattle.lookup.specs.Loss.{ceiling}
-use Rattle.lookup.specs.Interpolation.{cellNumbers, interpolation}
-use Rattle.lookup.proofs.Axes.{Axes}
-use Rattle.lookup.proofs.Rounding.{ceiling-is}
+use Rattle.cell.specs.Cell.{Point, Cell, Has, Side, lower, upper, share, weight, sum, index, corners, entryAt}
+use Rattle.cell.specs.Rounding.{ceiling}
+use Rattle.cell.specs.Interpolation.{cellNumbers, interpolation}
+use Rattle.lookup.proofs.Axes.{RisingAxes}
+use Rattle.cell.proofs.Rounding.{ceiling-is}
 
 -- ---- shares
 
@@ -48,7 +48,7 @@ without : {x : Fraction} (P a₀ a₁ b e₀ e₁ m₀ m₁ d : ℕ) → b ≡ 0
 without P a₀ a₁ b e₀ e₁ m₀ m₁ d h i =
     is-also P (m₀ + m₁) d (i .pos) (omega (arith, ap (λ (n : ℕ). a₀ * n * e₀ * d) h, ap (λ (n : ℕ). a₁ * n * e₁ * d) h)) i
 
-module _ (speeds torques : List ℕ) (axes : Axes speeds torques) (p : Point) (k : Cell) (has : Has speeds torques p k) where
+module _ (speeds torques : List ℕ) (axes : RisingAxes speeds torques) (p : Point) (k : Cell) (has : Has speeds torques p k) where
   -- the speeds and the torques of the cell
   abbrev pub x0 : ℕ
   x0 = 10 * getD speeds (k .speed) 0

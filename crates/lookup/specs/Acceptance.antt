@@ -9,7 +9,7 @@ use Rattle.refusal.specs.Outcome.{Told, refusal, accepted, refused}
 use Rattle.grid.specs.Map.{speedsOf, torquesOf}
 use Rattle.grid.specs.Rules.{GridRules, MapRules}
 use Rattle.grid.specs.declared.Grid.{Grid}
-use Rattle.lookup.specs.Cell.{Point, Within}
+use Rattle.cell.specs.Cell.{Point, Within}
 use Rattle.lookup.specs.Loss.{lossAt, lossAnswer}
 use Rattle.lookup.specs.Nearest.{GridPoint, nearestPoint, nearestAnswer}
 

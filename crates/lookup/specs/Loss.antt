@@ -3,14 +3,14 @@ use Prim.Native.Nat.{ℕ, zero, suc, _-_, _*_}
 use mathlib.Core.Bool.{Bool, _&&_, cond}
 use mathlib.Core.List.{List}
 use lib.Dec.{leb}
-use lib.IntN.{ℤ, pos, negℤ}
+use lib.IntN.{ℤ}
 use lib.ListN.{length, getD}
-use Rattle.arith.specs.Fraction.{Fraction, whole}
-use Rattle.arith.specs.Quotient.{quotientUp, quotientDown}
+use Rattle.arith.specs.Fraction.{whole}
 use Rattle.refusal.specs.Outcome.{Outcome, accepted, _>>=_, require}
 use Rattle.grid.specs.Map.{speedsOf, torquesOf, validMap}
 use Rattle.grid.specs.declared.Grid.{Grid}
-use Rattle.lookup.specs.Cell.{Point, Cell, sum, corners, entryAt}
+use Rattle.cell.specs.Cell.{Point, Cell, sum, corners, entryAt}
+use Rattle.cell.specs.Rounding.{ceiling}
 
 -- the greatest index from 1 to n at which a test holds, or 0 where there is none
 unfoldable pub lastUpTo : (ℕ → Bool) → ℕ → ℕ
@@ -23,10 +23,6 @@ neighbour ns scale v = lastUpTo (λ i. leb (scale * getD ns i 0) v) (length ns -
 
 unfoldable pub cellOf : (speeds torques : List ℕ) → Point → Cell
 cellOf speeds torques p = record { speed = neighbour speeds 10 (p .speed); torque = neighbour torques 100 (p .torque) }
-
--- a fraction rounded up to a whole number, "towards plus infinity, also under zero"
-unfoldable pub ceiling : Fraction → ℤ
-ceiling x = cond (leb (x .minus) (x .plus)) (pos (quotientUp (x .plus - x .minus) (x .den))) (negℤ (pos (quotientDown (x .minus - x .plus) (x .den))))
 
 -- the loss at a point within the limits, in hundredths of Nm. "Below the first torque the line through the first two torques is continued down to 0 Nm."
 unfoldable pub lossAt : (speeds torques entries : List ℕ) → Point → ℤ

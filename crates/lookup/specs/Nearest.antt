@@ -7,7 +7,7 @@ use lib.ListN.{length, getD}
 use Rattle.refusal.specs.Outcome.{Outcome, accepted, _>>=_, require}
 use Rattle.grid.specs.Map.{speedsOf, torquesOf, validGrid}
 use Rattle.grid.specs.declared.Grid.{Grid}
-use Rattle.lookup.specs.Cell.{Point}
+use Rattle.cell.specs.Cell.{Point}
 
 -- how far a number is from a value; one of the two differences is 0
 abbrev pub distance : ℕ → ℕ → ℕ

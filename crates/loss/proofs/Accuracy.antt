@@ -1,5 +1,5 @@
 -- Exact entries of both kinds are numbers, and entries are never below them and less than 0.01 Nm (kind 1) or 0.02 Nm (kind 2) above. Assumes nothing.
-use Prim.Native.Nat.{ℕ, zero, suc, _+_, _*_, _-_, _≤_, _<_}
+use Prim.Native.Nat.{ℕ, zero, suc, _+_, _*_, _≤_, _<_}
 use mathlib.Core.Path.{_≡_, refl, ap, sym, _∙_}
 use mathlib.Core.Bool.{false}
 use mathlib.Core.List.{List, [], _∷_, map}
@@ -13,12 +13,12 @@ use Rattle.arith.specs.Fraction.{Fraction, _less_over_, _over_, whole, _⊕_, _
 use Rattle.arith.proofs.Fractions.{Is, is-itself, is-less, is-whole, is-over, is-expanded, is-sum, is-plus-whole, at-most, below, below-of, at-most-itself, not-both}
 use Rattle.loss.specs.Rounding.{roundUp, partAbove}
 use Rattle.loss.specs.Standard.{lineOf, standardLoss, standardEntry}
-use Rattle.loss.specs.Measured.{Reading, readingUncertainty, lossUncertainty, measuredLoss, lossIsUnderZero, allowance, fromGrains, entryOf, Output, Row, output, outputReading, readings, rowUncertainty, measuredEntry, AllInRange, RowInRange}
+use Rattle.loss.specs.Measured.{SensorReading, readingUncertainty, lossUncertainty, measuredLoss, lossIsUnderZero, allowance, fromGrains, entryOf, Output, Row, output, outputReading, readings, rowUncertainty, measuredEntry, AllInRange, RowInRange}
 use Rattle.loss.specs.Exact.{Cut, IsNumber, Near, EntryAccurate, Exact, cut, exactStandard, rootSquare, exactMeasured}
 use Rattle.loss.proofs.Lines.{line-of-usable}
 use Rattle.loss.proofs.Rounding.{not-negative, not-negative-of, is-part-above, is-zero, roundUp-natural}
 use Rattle.loss.proofs.Values.{standardNumerator, standard-loss-is, loss-is, under-zero-by, allowance-is}
-use Rattle.loss.proofs.Readings.{in-range-divisible, AllDivisible, allowed, root-enough, root-near}
+use Rattle.loss.proofs.Readings.{rules-divisible, AllDivisible, allowed, root-enough, root-near}
 use Rattle.loss.proofs.Cuts.{square-not-negative, exact-is-number, entry-accurate}
 
 -- ---- kind 1
@@ -58,7 +58,7 @@ module _ (number ratio torque : ℕ) where
 -- ---- kind 2
 
 -- For any list of readings whose allowed excess is at most 99 grains, and any allowance that is not negative.
-pub readings-accurate : (x : Exact) (rs : List Reading) → AllDivisible rs → allowed rs ≤ 99000 →
+pub readings-accurate : (x : Exact) (rs : List SensorReading) → AllDivisible rs → allowed rs ≤ 99000 →
     whole 0 ≼ x .loss → whole 0 ≼ x .allowance → x .square ≡ rootSquare rs →
     EntryAccurate 2 (cut x) (roundUp (x .loss ⊕ partAbove (fromGrains (lossUncertainty (map readingUncertainty rs))) (x .allowance)))
 readings-accurate x rs ok small loss allowance e =
@@ -76,7 +76,7 @@ loss-not-negative ratio input output e =
 
 outputs-divisible : (os : List Output) → AllInRange os → AllDivisible (map outputReading os)
 outputs-divisible [] r = tt
-outputs-divisible (o ∷ os) r = (in-range-divisible (r .0), outputs-divisible os (r .1))
+outputs-divisible (o ∷ os) r = (rules-divisible (r .0), outputs-divisible os (r .1))
 
 outputs-allowed : (os : List Output) → allowed (map outputReading os) ≡ 5000 * length os
 outputs-allowed [] = omega arith
@@ -90,7 +90,7 @@ pub measured-entry-accurate : (row : Row) → RowInRange row → EntryAccurate 2
 unfolding exactMeasured measuredEntry entryOf rowUncertainty readings
 measured-entry-accurate row r =
     readings-accurate (exactMeasured row) (readings row)
-    (in-range-divisible (r .sensor), outputs-divisible (row .outputs) (r .outputs))
+    (rules-divisible (r .sensor), outputs-divisible (row .outputs) (r .outputs))
     (omega (arith, outputs-allowed (row .outputs), r .ratio, r .few))
     (loss-not-negative (row .ratio) (row .input) (output row) (r .loss))
     (allowance-not-negative (row .ratio) (row .input) (output row))

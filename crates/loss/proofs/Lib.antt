@@ -8,5 +8,4 @@ pub mod Readings
 pub mod Cuts
 pub mod Accuracy
 pub mod Rows
-pub mod Ranges
 pub mod ExactCases

@@ -1,5 +1,5 @@
 -- A sensor's parts and its uncertainty: the law of U, their bounds, and the steps as the code makes them. Assumes nothing.
-use Prim.Native.Nat.{ℕ, _+_, _*_, _-_, _≤_, _<_}
+use Prim.Native.Nat.{ℕ, _+_, _*_, _≤_, _<_}
 use mathlib.Core.Path.{_≡_, ap}
 use mathlib.Core.List.{List}
 use native.Mathlib.Omega.{arith}
@@ -11,10 +11,11 @@ use Rattle.arith.specs.Quotient.{quotientUp, quotientUp-law, quotientUp-least}
 use Rattle.arith.specs.Root.{rootUp}
 use Rattle.arith.proofs.Squares.{square-at-most}
 use Rattle.arith.proofs.Roots.{rootUp-law}
-use Rattle.component.specs.declared.sensor.Sensor.{Sensor}
+use Rattle.sensor.specs.Sensor.{SensorRules}
+use Rattle.sensor.specs.declared.Sensor.{Sensor}
 use Rattle.loss.specs.declared.FixedParts.{FixedParts}
 use Rattle.loss.specs.declared.Steps.{Steps}
-use Rattle.loss.specs.Measured.{grainsUp, temperatureOnSensitivity, temperatureOnZero, calibration, parasiticLoads, fixedParts, sensorUncertainty, uncertainty-law, sensorSteps, InRange, scaledUncertainty, sumOfSquares}
+use Rattle.loss.specs.Measured.{grainsUp, temperatureOnSensitivity, temperatureOnZero, calibration, parasiticLoads, fixedParts, sensorUncertainty, uncertainty-law, sensorSteps, scaledUncertainty, sumOfSquares}
 
 -- ---- U
 
@@ -28,26 +29,26 @@ uncertainty-at-most {a} {b} {g} {h} p q r s =
 quotient-at-most : (n d k : ℕ) → 0 < d → n ≤ k * d → quotientUp n d ≤ k
 quotient-at-most n d k h l = quotientUp-least (quotientUp-law n d h) k l
 
-module _ {sensor : Sensor} (ranges : InRange sensor) where
+module _ {sensor : Sensor} (rules : SensorRules sensor) where
   pub sensitivity-at-most : {C : ℕ} → C ≤ 5000000 → grainsUp (temperatureOnSensitivity sensor C) ≤ 25000000
   unfolding grainsUp temperatureOnSensitivity
   sensitivity-at-most {C} h =
-      quotient-at-most _ _ 25000000 (omega (arith, ranges .least-span)) (omega (arith, ranges .least-span, mul-le-mul (mul-le-mul (ranges .sensitivity) (ranges .difference)) h))
+      quotient-at-most _ _ 25000000 (omega (arith, rules .span .0)) (omega (arith, rules .span .0, mul-le-mul (mul-le-mul (rules .sensitivity .1) (rules .difference .1)) h))
 
   pub zero-at-most : grainsUp (temperatureOnZero sensor) ≤ 25000000
   unfolding grainsUp temperatureOnZero
   zero-at-most =
-      quotient-at-most _ _ 25000000 (omega (arith, ranges .least-span)) (omega (arith, ranges .least-span, mul-le-mul (mul-le-mul (ranges .zero) (ranges .difference)) (ranges .nominal)))
+      quotient-at-most _ _ 25000000 (omega (arith, rules .span .0)) (omega (arith, rules .span .0, mul-le-mul (mul-le-mul (rules .zero .1) (rules .difference .1)) (rules .nominal .1)))
 
   pub calibration-at-most : grainsUp (calibration sensor) ≤ 5000000
   unfolding grainsUp calibration
   calibration-at-most =
-      quotient-at-most _ _ 5000000 (omega (arith, ranges .least-advancement)) (omega (arith, ranges .least-advancement, mul-le-mul (ranges .calibration) (ranges .nominal)))
+      quotient-at-most _ _ 5000000 (omega (arith, rules .advancement .0)) (omega (arith, rules .advancement .0, mul-le-mul (rules .calibration .1) (rules .nominal .1)))
 
   pub parasitic-at-most : grainsUp (parasiticLoads sensor) ≤ 5000000
   unfolding grainsUp parasiticLoads
   parasitic-at-most =
-      quotient-at-most _ _ 5000000 (omega arith) (omega (arith, mul-le-mul (mul-le-mul (ranges .parasitic) (ranges .share)) (ranges .nominal)))
+      quotient-at-most _ _ 5000000 (omega arith) (omega (arith, mul-le-mul (mul-le-mul (rules .parasitic .1) (rules .share .1)) (rules .nominal .1)))
 
 -- ---- the steps, from the fixed parts
 
@@ -64,7 +65,7 @@ module _ (sensor : Sensor) (C : ℕ) (fixed : FixedParts) (is-fixed : fixed ≡ 
   unfolding fixedParts
   fixed-parasitic = ap (λ (f : FixedParts). f .parasitic) is-fixed
 
-  pub fixed-at-most : InRange sensor → (fixed .zero ≤ 25000000) × (fixed .calibration ≤ 5000000) × (fixed .parasitic ≤ 5000000)
+  pub fixed-at-most : SensorRules sensor → (fixed .zero ≤ 25000000) × (fixed .calibration ≤ 5000000) × (fixed .parasitic ≤ 5000000)
   fixed-at-most r = (rw fixed-zero (zero-at-most r), rw fixed-calibration (calibration-at-most r), rw fixed-parasitic (parasitic-at-most r))
 
   pub steps-made : (a u : ℕ) → a ≡ grainsUp (temperatureOnSensitivity sensor C) → u ≡ sensorUncertainty a (fixed .zero) (fixed .calibration) (fixed .parasitic) →

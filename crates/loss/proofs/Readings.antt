@@ -10,10 +10,11 @@ use Rattle.arith.specs.Fraction.{Fraction, _over_, whole, _⊕_, _⊗_, _≼_}
 use Rattle.arith.proofs.Squares.{square-at-most}
 use Rattle.arith.proofs.Roots.{rootUp-law}
 use Rattle.arith.proofs.Fractions.{Is, is-itself, is-over, is-whole, is-also, is-subtracted, is-sum, is-natural-product, is-plus-whole, at-most, at-most-of}
-use Rattle.component.specs.declared.sensor.Sensor.{Sensor}
-use Rattle.loss.specs.Measured.{grainsUp, temperatureOnSensitivity, temperatureOnZero, calibration, parasiticLoads, fourSquares, LeastUncertainty, uncertainty-law, sensorSteps, InRange, Reading, scaledUncertainty, readingUncertainty, sumOfSquares, lossUncertainty, fromGrains}
+use Rattle.sensor.specs.Sensor.{SensorRules}
+use Rattle.sensor.specs.declared.Sensor.{Sensor}
+use Rattle.loss.specs.Measured.{grainsUp, temperatureOnSensitivity, temperatureOnZero, calibration, parasiticLoads, fourSquares, LeastUncertainty, uncertainty-law, sensorSteps, SensorReading, scaledUncertainty, readingUncertainty, sumOfSquares, lossUncertainty, fromGrains}
 use Rattle.loss.specs.Exact.{unrounded, sensorSquare, rootSquare}
-use Rattle.loss.proofs.Roots.{sensor-enough, sensor-near, Term, usedSquares, exactSquares, slacks, Within, root-within}
+use Rattle.loss.proofs.Roots.{sensor-enough, sensor-near, Term, usedSquares, exactSquares, slacks, TermsWithin, root-within}
 use Rattle.loss.proofs.Rounding.{not-negative-of}
 
 -- ---- one sensor, its exact parts over one denominator
@@ -23,8 +24,8 @@ pub record Divisible (sensor : Sensor) : Type 0 where
   pub span : 0 < sensor .span
   pub advancement : 0 < sensor .advancement
 
-pub in-range-divisible : {sensor : Sensor} → InRange sensor → Divisible sensor
-in-range-divisible r = record { span = omega (arith, r .least-span); advancement = omega (arith, r .least-advancement) }
+pub rules-divisible : {sensor : Sensor} → SensorRules sensor → Divisible sensor
+rules-divisible r = record { span = omega (arith, r .span .0); advancement = omega (arith, r .advancement .0) }
 
 module _ (s : Sensor) (C : ℕ) where
   abbrev pub common : ℕ
@@ -114,30 +115,30 @@ module _ (s : Sensor) (C : ℕ) (ok : Divisible s) where
 
 -- ---- a list of readings
 
-abbrev pub AllDivisible : List Reading → Type 0
+abbrev pub AllDivisible : List SensorReading → Type 0
 AllDivisible [] = Unit {0}
 AllDivisible (r ∷ rs) = Divisible (r .sensor) × AllDivisible rs
 
-abbrev den : Reading → ℕ
+abbrev den : SensorReading → ℕ
 den r = common (r .sensor) (r .torque)
 
-abbrev numerator : Reading → ℕ
+abbrev numerator : SensorReading → ℕ
 numerator r = r .factor * r .factor * exactFour (r .sensor) (r .torque)
 
-abbrev dens : List Reading → ℕ
+abbrev dens : List SensorReading → ℕ
 dens [] = 1
 dens (r ∷ rs) = den r * dens rs
 
-abbrev numerators : List Reading → ℕ
+abbrev numerators : List SensorReading → ℕ
 numerators [] = 0
 numerators (r ∷ rs) = numerator r * (dens rs * dens rs) + numerators rs * (den r * den r)
 
 -- how far the loss uncertainty may be above the exact root, in thousandths of a grain: each U by 4 grains times its factor, and each scaled U by one more
-abbrev pub allowed : List Reading → ℕ
+abbrev pub allowed : List SensorReading → ℕ
 allowed [] = 0
 allowed (r ∷ rs) = 4 * r .factor + 1000 + allowed rs
 
-dens-positive : (rs : List Reading) → AllDivisible rs → 0 < dens rs
+dens-positive : (rs : List SensorReading) → AllDivisible rs → 0 < dens rs
 dens-positive [] ok = omega arith
 dens-positive (r ∷ rs) ok = mul-pos (common-positive (r .sensor) (r .torque) (ok .0)) (dens-positive rs (ok .1))
 
@@ -156,7 +157,7 @@ added-squares {S = S} {T = T} {D = D} {E = E} p q i j =
     (is-also (S * (E * E)) 0 (3 * (100000 * (D * E) * (100000 * (D * E)))) pos (omega arith) i)
     (is-also (T * (D * D)) 0 (3 * (100000 * (D * E) * (100000 * (D * E)))) pos (omega arith) j)
 
-root-square-is : (rs : List Reading) → AllDivisible rs → Is (rootSquare rs) (numerators rs) 0 (3 * (100000 * dens rs * (100000 * dens rs)))
+root-square-is : (rs : List SensorReading) → AllDivisible rs → Is (rootSquare rs) (numerators rs) 0 (3 * (100000 * dens rs * (100000 * dens rs)))
 unfolding rootSquare
 root-square-is [] ok = is-also 0 0 _ (omega arith) (omega arith) (is-whole 0)
 root-square-is (r ∷ rs) ok =
@@ -167,7 +168,7 @@ root-square-is (r ∷ rs) ok =
 -- ---- not below
 
 -- the scaled uncertainty is a quotient rounded up
-scaled-law : (r : Reading) → QuotientUp (U (r .sensor) (r .torque) * r .factor) 1000 (readingUncertainty r)
+scaled-law : (r : SensorReading) → QuotientUp (U (r .sensor) (r .torque) * r .factor) 1000 (readingUncertainty r)
 unfolding readingUncertainty scaledUncertainty
 scaled-law r = quotientUp-law _ 1000 (omega arith)
 
@@ -180,14 +181,14 @@ added-enough : (S T D E y z : ℕ) → S ≤ 3 * (1000 * D * (1000 * D)) * y →
     S * (E * E) + T * (D * D) ≤ 3 * (1000 * (D * E) * (1000 * (D * E))) * (y + z)
 added-enough S T D E y z h k = omega (arith, mul-le-mul-right (E * E) h, mul-le-mul-right (D * D) k)
 
-squares-enough : (rs : List Reading) → AllDivisible rs → numerators rs ≤ 3 * (1000 * dens rs * (1000 * dens rs)) * sumOfSquares (map readingUncertainty rs)
+squares-enough : (rs : List SensorReading) → AllDivisible rs → numerators rs ≤ 3 * (1000 * dens rs * (1000 * dens rs)) * sumOfSquares (map readingUncertainty rs)
 squares-enough [] ok = omega arith
 squares-enough (r ∷ rs) ok =
     added-enough (numerator r) (numerators rs) (den r) (dens rs) (readingUncertainty r * readingUncertainty r) (sumOfSquares (map readingUncertainty rs))
     (scaled-enough (r .factor) (exactFour (r .sensor) (r .torque)) (U (r .sensor) (r .torque)) (den r) (readingUncertainty r) (U-enough (r .sensor) (r .torque) (ok .0)) (scaled-law r .not-below))
     (squares-enough rs (ok .1))
 
-root-law : (rs : List Reading) → RootUp (sumOfSquares (map readingUncertainty rs)) (lossUncertainty (map readingUncertainty rs))
+root-law : (rs : List SensorReading) → RootUp (sumOfSquares (map readingUncertainty rs)) (lossUncertainty (map readingUncertainty rs))
 unfolding lossUncertainty
 root-law rs = rootUp-law _
 
@@ -199,7 +200,7 @@ enough-scaled : (n w T D : ℕ) → n ≤ 3 * (1000 * D * (1000 * D)) * w → w 
 enough-scaled n w T D h k = omega (arith, mul-le-mul-left (3 * (1000 * D * (1000 * D))) k)
 
 -- the square of the loss uncertainty is at least the exact square
-pub root-enough : (rs : List Reading) → AllDivisible rs →
+pub root-enough : (rs : List SensorReading) → AllDivisible rs →
     rootSquare rs ≼ fromGrains (lossUncertainty (map readingUncertainty rs)) ⊗ fromGrains (lossUncertainty (map readingUncertainty rs))
 root-enough rs ok =
     let T : ℕ = lossUncertainty (map readingUncertainty rs) in
@@ -208,24 +209,24 @@ root-enough rs ok =
 
 -- ---- not far above
 
-term : ℕ → Reading → Term
+term : ℕ → SensorReading → Term
 term q r = record {
   used = readingUncertainty r;
   exact = q * r .factor * (U (r .sensor) (r .torque) - 4);
   slack = q * (4 * r .factor + 1000);
 }
 
-terms : ℕ → List Reading → List Term
+terms : ℕ → List SensorReading → List Term
 unfolding term
 terms q [] = []
 terms q (r ∷ rs) = term q r ∷ terms q rs
 
-terms-used : (q : ℕ) (rs : List Reading) → usedSquares (terms q rs) ≡ sumOfSquares (map readingUncertainty rs)
+terms-used : (q : ℕ) (rs : List SensorReading) → usedSquares (terms q rs) ≡ sumOfSquares (map readingUncertainty rs)
 unfolding terms
 terms-used q [] = refl
 terms-used q (r ∷ rs) = omega (arith, terms-used q rs)
 
-terms-slack : (q : ℕ) (rs : List Reading) → slacks (terms q rs) ≡ q * allowed rs
+terms-slack : (q : ℕ) (rs : List SensorReading) → slacks (terms q rs) ≡ q * allowed rs
 unfolding terms
 terms-slack q [] = omega arith
 terms-slack q (r ∷ rs) = omega (arith, terms-slack q rs)
@@ -237,7 +238,7 @@ within-slack q R U Y h =
     let l : Y * 1000 ≤ U * R + 1000 = omega arith in
     omega (arith, mul-le-mul-left q l, mul-le-mul-left (q * R) u)
 
-terms-within : (q : ℕ) (rs : List Reading) → Within (1000 * q) (terms q rs)
+terms-within : (q : ℕ) (rs : List SensorReading) → TermsWithin (1000 * q) (terms q rs)
 unfolding terms
 terms-within q [] = tt
 terms-within q (r ∷ rs) = (within-slack q (r .factor) (U (r .sensor) (r .torque)) (readingUncertainty r) (scaled-law r .near), terms-within q rs)
@@ -249,7 +250,7 @@ term-exact q R W F D h = omega (arith, mul-le-mul-left (q * R * (q * R)) h)
 added-exact : (D E x y s t q : ℕ) → 3 * (D * D) * x ≤ s * (q * q) → 3 * (E * E) * y ≤ t * (q * q) → 3 * (D * E * (D * E)) * (x + y) ≤ (s * (E * E) + t * (D * D)) * (q * q)
 added-exact D E x y s t q h k = omega (arith, mul-le-mul-right (E * E) h, mul-le-mul-right (D * D) k)
 
-terms-exact : (q : ℕ) (rs : List Reading) → AllDivisible rs → 3 * (dens rs * dens rs) * exactSquares (terms q rs) ≤ numerators rs * (q * q)
+terms-exact : (q : ℕ) (rs : List SensorReading) → AllDivisible rs → 3 * (dens rs * dens rs) * exactSquares (terms q rs) ≤ numerators rs * (q * q)
 unfolding terms
 terms-exact q [] ok = omega arith
 terms-exact q (r ∷ rs) ok =
@@ -263,7 +264,7 @@ exact-at-most : (n D e p q : ℕ) → 0 < D → 3 * (D * D) * e ≤ n * (q * q) 
 exact-at-most n D e p q pos h k = le-of-mul-le-mul-right {k = D * D} (omega arith) (mul-pos pos pos)
 
 -- The loss uncertainty is at most a hundredth above whatever is at or above the exact root, where what is allowed is at most 99 grains.
-pub root-near : (rs : List Reading) → AllDivisible rs → allowed rs ≤ 99000 → (y : Fraction) → whole 0 ≼ y → rootSquare rs ≼ y ⊗ y →
+pub root-near : (rs : List SensorReading) → AllDivisible rs → allowed rs ≤ 99000 → (y : Fraction) → whole 0 ≼ y → rootSquare rs ≼ y ⊗ y →
     fromGrains (lossUncertainty (map readingUncertainty rs)) ≼ y ⊕ whole 1
 root-near rs ok small y nn h =
     let T : ℕ = lossUncertainty (map readingUncertainty rs) in

@@ -73,11 +73,11 @@ slacks [] = 0
 slacks (t ∷ ts) = t .slack + slacks ts
 
 -- each used number times Q is at most its exact one and its slack
-abbrev pub Within : ℕ → List Term → Type 0
-Within Q [] = Unit {0}
-Within Q (t ∷ ts) = (t .used * Q ≤ t .exact + t .slack) × Within Q ts
+abbrev pub TermsWithin : ℕ → List Term → Type 0
+TermsWithin Q [] = Unit {0}
+TermsWithin Q (t ∷ ts) = (t .used * Q ≤ t .exact + t .slack) × TermsWithin Q ts
 
-squares-within : (Q y : ℕ) (ts : List Term) → Within Q ts → exactSquares ts ≤ y * y →
+squares-within : (Q y : ℕ) (ts : List Term) → TermsWithin Q ts → exactSquares ts ≤ y * y →
     usedSquares ts * (Q * Q) ≤ exactSquares ts + 2 * (y * slacks ts) + slacks ts * slacks ts
 squares-within Q y [] h l = omega arith
 squares-within Q y (t ∷ ts) h l =
@@ -85,7 +85,7 @@ squares-within Q y (t ∷ ts) h l =
     omega (arith, square-at-most (h .0), squares-within Q y ts (h .1) (omega arith), mul-le-mul-right (t .slack) b)
 
 -- the root T of the used numbers is less than all slacks and one above y, where y is at or above the exact root
-pub root-within : (Q : ℕ) (ts : List Term) (y T : ℕ) → 0 < Q → Within Q ts → exactSquares ts ≤ y * y → RootUp (usedSquares ts) T → T * Q < y + slacks ts + Q
+pub root-within : (Q : ℕ) (ts : List Term) (y T : ℕ) → 0 < Q → TermsWithin Q ts → exactSquares ts ≤ y * y → RootUp (usedSquares ts) T → T * Q < y + slacks ts + Q
 root-within Q ts y zero pos h l r = omega arith
 root-within Q ts y (suc k) pos h l r = by-contra _ _ (λ far. not-least (omega arith))
   where

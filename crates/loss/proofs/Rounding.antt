@@ -9,10 +9,10 @@ use borrow.Author.Tests.{leb-true, leb-false, ltb-true, ltb-false}
 use lib.Dec.{leb, ltb}
 use lib.IntN.{pos}
 use Rattle.arith.specs.Quotient.{quotientUp, QuotientUp, quotientUp-law}
-use Rattle.arith.specs.Fraction.{Fraction, _over_, whole, _⊖_, cleared, _≼_, _≺_, larger, RoundsUp}
+use Rattle.arith.specs.Fraction.{Fraction, _over_, whole, _⊖_, cleared, _≼_, _≺_, larger, RoundsUp, Same}
 use Rattle.arith.proofs.Quotients.{is-quotientUp}
 use Rattle.arith.proofs.Fractions.{Is, is-itself, is-whole, is-over, is-signed-pos, is-also, is-subtracted, is-difference, is-plus-whole, at-most, at-most-of, below, below-of}
-use Rattle.loss.specs.Rounding.{roundUp, partAbove, underZero, Same}
+use Rattle.loss.specs.Rounding.{roundUp, partAbove, underZero}
 
 -- ---- the order of values over one denominator
 
@@ -116,12 +116,6 @@ pub roundUp-natural : {x : Fraction} {n d : ℕ} → Is x n 0 d → roundUp x �
 roundUp-natural {n = n} {d = d} i =
     let z : n - 0 ≡ n = omega arith in
     roundUp-is i ∙ ap (λ (k : ℕ). quotientUp k d) z
-
-pub roundUp-same : (x y : Fraction) → Same x y → roundUp x ≡ roundUp y
-roundUp-same x y s = roundUp-is (is-itself x) ∙ sym (roundUp-is (equal-is s))
-  where
-    equal-is : Same x y → Is y (x .plus) (x .minus) (x .den)
-    equal-is s = record { pos = x .above; same = omega (arith, at-most-of (is-itself x) (is-itself y) (s .0), at-most-of (is-itself y) (is-itself x) (s .1)) }
 
 -- the number that it gives, in numbers
 pub roundUp-law : {x : Fraction} {p m d : ℕ} → Is x p m d → QuotientUp (p - m) d (roundUp x)

@@ -1,17 +1,17 @@
 -- Rows of kind 2, which have one output sensor: what is accepted is in range, and its uncertainties are small. Assumes nothing.
 use Prim.Native.Nat.{ℕ, _+_, _≤_, _<_, _^_}
-use mathlib.Core.Path.{_≡_, ap}
+use mathlib.Core.Path.{_≡_}
 use mathlib.Core.Bool.{false}
 use mathlib.Core.List.{[], _∷_}
 use native.Mathlib.Omega.{arith}
 use Rattle.arith.proofs.Squares.{square-at-most}
-use Rattle.component.specs.declared.sensor.Sensor.{Sensor}
-use Rattle.loss.specs.declared.Steps.{Steps}
-use Rattle.loss.specs.Measured.{InRange, readingUncertainty, scaledUncertainty, sensorSteps, sumOfSquares, lossUncertainty, lossIsUnderZero, entryOf, measuredRow, readings, rowUncertainty, measuredEntry, RowInRange}
-use Rattle.loss.proofs.Parts.{scaled-by-one, root-at-most}
+use Rattle.sensor.specs.Sensor.{SensorRules}
+use Rattle.sensor.specs.declared.Sensor.{Sensor}
+use Rattle.loss.specs.Measured.{sumOfSquares, lossUncertainty, lossIsUnderZero, measuredRow, RowInRange}
+use Rattle.loss.proofs.Parts.{root-at-most}
 
 -- a row of kind 2 in its ranges, whose loss is not under zero
-pub one-output-in-range : {ratio : ℕ} {inputSensor outputSensor : Sensor} {input output : ℕ} → ratio ≤ 20000 → InRange inputSensor → InRange outputSensor →
+pub one-output-in-range : {ratio : ℕ} {inputSensor outputSensor : Sensor} {input output : ℕ} → ratio ≤ 20000 → SensorRules inputSensor → SensorRules outputSensor →
     lossIsUnderZero ratio input output ≡ false → RowInRange (measuredRow ratio inputSensor outputSensor input output)
 one-output-in-range {output = output} h i o e =
     let z : output + 0 ≡ output = omega arith in

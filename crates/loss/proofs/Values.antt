@@ -7,10 +7,9 @@ use native.Mathlib.Omega.{arith}
 use native.Mathlib.Decide.{decLe}
 use lib.Dec.{ltb}
 use Rattle.arith.specs.Quotient.{quotientUp}
-use Rattle.arith.specs.Fraction.{_over_, whole, _⊕_, _⊗_, larger}
+use Rattle.arith.specs.Fraction.{_over_, whole, _⊕_, _⊗_, larger, Same}
 use Rattle.arith.proofs.Fractions.{Is, is-over, is-whole, is-also, is-subtracted, is-sum, is-difference, is-product, is-natural-product, is-larger}
 use Rattle.loss.specs.declared.Line.{Line}
-use Rattle.loss.specs.Rounding.{Same}
 use Rattle.loss.specs.Standard.{Usable, lineOf, standardLoss, standardEntry}
 use Rattle.loss.specs.Measured.{measuredLoss, lossIsUnderZero, allowance, entryOf}
 use Rattle.loss.proofs.Rounding.{same-is, is-same, is-part-above, larger-right, roundUp-is, roundUp-natural, under-zero-is}

@@ -3,9 +3,9 @@ use Prim.Native.Nat.{ℕ}
 use mathlib.Core.List.{List, [], _∷_}
 use mathlib.Core.Logic.{_⊎_}
 use Rattle.arith.specs.Fraction.{Fraction, _over_, whole, _⊕_, _⊖_, _⊗_, _≼_, _≺_}
-use Rattle.component.specs.declared.sensor.Sensor.{Sensor}
+use Rattle.sensor.specs.declared.Sensor.{Sensor}
 use Rattle.loss.specs.Standard.{lineOf, standardLoss}
-use Rattle.loss.specs.Measured.{Part, temperatureOnSensitivity, temperatureOnZero, calibration, parasiticLoads, Reading, measuredLoss, allowance, Row, output, readings}
+use Rattle.loss.specs.Measured.{Part, temperatureOnSensitivity, temperatureOnZero, calibration, parasiticLoads, SensorReading, measuredLoss, allowance, Row, output, readings}
 
 -- ---- a number by the fractions on its two sides
 
@@ -69,7 +69,7 @@ sensorSquare sensor C =
     (4 over 3) ⊗ (a ⊗ a ⊕ b ⊗ b ⊕ whole 3 ⊗ g ⊗ g ⊕ h ⊗ h)
 
 -- "The root is taken of ratio × ratio × the input sensor's square + the output sensor's square."
-unfoldable pub rootSquare : List Reading → Fraction
+unfoldable pub rootSquare : List SensorReading → Fraction
 rootSquare [] = whole 0
 rootSquare (r ∷ rs) =
     (r .factor over 1000) ⊗ (r .factor over 1000) ⊗ sensorSquare (r .sensor) (r .torque) ⊕ rootSquare rs

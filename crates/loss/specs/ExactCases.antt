@@ -2,7 +2,7 @@
 use Prim.Native.Nat.{ℕ}
 use mathlib.Core.List.{List, [], _∷_}
 use Rattle.arith.specs.Fraction.{_over_}
-use Rattle.component.specs.declared.sensor.Sensor.{Sensor}
+use Rattle.sensor.specs.declared.Sensor.{Sensor}
 use Rattle.loss.specs.Measured.{measuredRow}
 use Rattle.loss.specs.Exact.{Exact, cut, exactStandard, exactMeasured}
 

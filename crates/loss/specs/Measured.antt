@@ -9,13 +9,14 @@ use lib.ListN.{length}
 use Rattle.arith.specs.Quotient.{quotientUp, quotientUp-law, quotientUp-least}
 use Rattle.arith.specs.Root.{rootUp}
 use Rattle.arith.proofs.Roots.{rootUp-law}
-use Rattle.arith.specs.Fraction.{Fraction, _over_, whole, _⊕_, _⊖_, _⊗_, larger}
-use Rattle.component.specs.declared.sensor.Sensor.{Sensor}
+use Rattle.arith.specs.Fraction.{Fraction, _over_, whole, _⊕_, _⊖_, _⊗_, larger, Same}
+use Rattle.sensor.specs.Sensor.{SensorRules}
+use Rattle.sensor.specs.declared.Sensor.{Sensor}
 use Rattle.loss.specs.declared.FixedParts.{FixedParts}
 use Rattle.loss.specs.declared.Steps.{Steps}
 use Rattle.loss.specs.declared.MeasuredLoss.{MeasuredLoss}
 use Rattle.loss.specs.declared.MeasuredLoss.the-variants.{UnderZero, Loss}
-use Rattle.loss.specs.Rounding.{roundUp, partAbove, underZero, Same}
+use Rattle.loss.specs.Rounding.{roundUp, partAbove, underZero}
 
 -- ---- "For one sensor, with C its torque in hundredths, four parts in grains"
 
@@ -109,22 +110,10 @@ sensorSteps sensor C =
     let h = grainsUp (parasiticLoads sensor) in
     record { sensitivity = a; zero = b; calibration = g; parasitic = h; uncertainty = sensorUncertainty a b g h }
 
--- A sensor's numbers keep the limits of "Component data", tags 6 and 7, that its uncertainty rests on.
-pub record InRange (sensor : Sensor) : Type 0 where
-  pub nominal : sensor .nominal ≤ 50000
-  pub sensitivity : sensor .sensitivity ≤ 10000
-  pub zero : sensor .zero ≤ 10000
-  pub calibration : sensor .calibration ≤ 10000
-  pub least-advancement : 1000 ≤ sensor .advancement
-  pub parasitic : sensor .parasitic ≤ 10000
-  pub share : sensor .share ≤ 1000
-  pub difference : sensor .difference ≤ 500
-  pub least-span : 10 ≤ sensor .span
-
 -- ---- the loss uncertainty, over any number of sensors
 
 -- a sensor that is read: the factor that takes its uncertainty to the wheel, and its torque
-pub record Reading : Type 0 where
+pub record SensorReading : Type 0 where
   pub factor : ℕ
   pub sensor : Sensor
   pub torque : ℕ
@@ -133,7 +122,7 @@ pub record Reading : Type 0 where
 unfoldable pub scaledUncertainty : (factor U : ℕ) → ℕ
 scaledUncertainty factor U = quotientUp (U * factor) 1000
 
-unfoldable pub readingUncertainty : Reading → ℕ
+unfoldable pub readingUncertainty : SensorReading → ℕ
 readingUncertainty r = scaledUncertainty (r .factor) (sensorSteps (r .sensor) (r .torque) .uncertainty)
 
 abbrev pub sumOfSquares : List ℕ → ℕ
@@ -192,10 +181,10 @@ measuredRow ratio inputSensor outputSensor input output =
     record { ratio = ratio; sensor = inputSensor; input = input; outputs = record { sensor = outputSensor; torque = output } ∷ [] }
 
 -- the input sensor with the ratio, each output sensor with 1
-abbrev pub outputReading : Output → Reading
+abbrev pub outputReading : Output → SensorReading
 outputReading o = record { factor = 1000; sensor = o .sensor; torque = o .torque }
 
-unfoldable pub readings : Row → List Reading
+unfoldable pub readings : Row → List SensorReading
 readings row = record { factor = row .ratio; sensor = row .sensor; torque = row .input } ∷ map outputReading (row .outputs)
 
 unfoldable pub rowUncertainty : Row → ℕ
@@ -207,11 +196,11 @@ measuredEntry row = entryOf (row .ratio) (row .input) (output row) (rowUncertain
 -- What the accuracy of an entry rests on. An accepted row of kind 2 has it, with one output sensor.
 abbrev pub AllInRange : List Output → Type 0
 AllInRange [] = Unit {0}
-AllInRange (o ∷ os) = InRange (o .sensor) × AllInRange os
+AllInRange (o ∷ os) = SensorRules (o .sensor) × AllInRange os
 
 pub record RowInRange (row : Row) : Type 0 where
   pub ratio : row .ratio ≤ 20000
-  pub sensor : InRange (row .sensor)
+  pub sensor : SensorRules (row .sensor)
   pub outputs : AllInRange (row .outputs)
   pub few : length (row .outputs) ≤ 3
   pub loss : lossIsUnderZero (row .ratio) (row .input) (output row) ≡ false

@@ -3,7 +3,7 @@ use Prim.Native.Nat.{ℕ, _-_}
 use mathlib.Core.Bool.{Bool}
 use lib.Dec.{ltb}
 use Rattle.arith.specs.Quotient.{quotientUp}
-use Rattle.arith.specs.Fraction.{Fraction, whole, _⊖_, _≼_, larger}
+use Rattle.arith.specs.Fraction.{Fraction, whole, _⊖_, larger}
 
 -- "the least whole number .. not below it". A fraction under zero has 0.
 unfoldable pub roundUp : Fraction → ℕ
@@ -16,7 +16,3 @@ partAbove x y = larger (x ⊖ y) (whole 0)
 -- "under zero"
 unfoldable pub underZero : Fraction → Bool
 underZero x = ltb (x .plus) (x .minus)
-
--- two fractions of the same value
-abbrev pub Same : Fraction → Fraction → Type 0
-Same x y = (x ≼ y) × (y ≼ x)

@@ -1,15 +1,15 @@
 // The loss of an axle: the standard loss of a line, and the measured loss of a row of readings.
-use component::sensor::Sensor;
+use sensor::Sensor;
 ghost use mathlib.Core.Path.{_≡_};
 ghost use Prim.Native.Nat.{_+_, _-_, _*_, _≤_, _<_, _^_};
-ghost use Rattle.loss.specs.Rounding.{Same};
-ghost use Rattle.arith.specs.Fraction.{_over_};
+ghost use Rattle.arith.specs.Fraction.{Same, _over_};
 ghost use Rattle.arith.specs.Quotient.{quotientUp};
+ghost use Rattle.sensor.specs.Sensor.{SensorRules};
 ghost use Rattle.loss.specs.Standard.{lineOf, Usable, standardEntry};
-ghost use Rattle.loss.specs.Measured.{InRange, fixedParts, sensorUncertainty, sensorSteps, scaledUncertainty, sumOfSquares, lossUncertainty, allowance, LossSays, entryOf};
+ghost use Rattle.loss.specs.Measured.{fixedParts, sensorUncertainty, sensorSteps, scaledUncertainty, sumOfSquares, lossUncertainty, allowance, LossSays, entryOf};
 
 // An axle line: efficiency in percent, and the two drag constants in Nm.
-pub struct Line {
+struct Line {
     pub efficiency: u64,
     pub t0: u64,
     pub t1: u64,
@@ -156,7 +156,7 @@ fn sensor_uncertainty(a: u64, b: u64, g: u64, h: u64) -> u64
 
 // The steps of a sensor at a torque in hundredths; fixed are its fixed parts.
 pub fn sensor_steps(sensor: Sensor, fixed: FixedParts, torque: u32) -> Steps
-    requires { ⌜ InRange sensor × (fixed ≡ fixedParts sensor) × (torque ≤ 5000000) ⌝ }
+    requires { ⌜ SensorRules sensor × (fixed ≡ fixedParts sensor) × (torque ≤ 5000000) ⌝ }
     ensures { λ r. ⌜ (r ≡ sensorSteps sensor torque) × (r .uncertainty ≤ 43000000) ⌝ }
 {
     let a = rounded_up(
@@ -205,13 +205,6 @@ pub fn loss_uncertainty(parts: &[u64]) -> u64
     arith::root_up(sum)
 }
 
-// a - b, or 0 where b is larger.
-fn part_above(a: u64, b: u64) -> u64
-    ensures { λ r. ⌜ r ≡ a - b ⌝ }
-{
-    if b < a { a - b } else { 0 }
-}
-
 // The measured loss, in half micronewton metres: 20,000 to a hundredth of Nm, so that 5 % of it is whole.
 pub enum MeasuredLoss {
     UnderZero,
@@ -234,7 +227,7 @@ pub fn measured_loss(ratio: u16, input: u32, output: u32) -> MeasuredLoss
 pub fn allowance(ratio: u16, input: u32, output: u32) -> u64
     ensures { λ r. ⌜ Same (r over 20000) (allowance ratio input output) × (r < 2 ^ 48) ⌝ }
 {
-    let twentieth = part_above(at_ratio(input, ratio), 1000 * (output as u64));
+    let twentieth = arith::part_above(at_ratio(input, ratio), 1000 * (output as u64));
     if twentieth < 2000000 {
         2000000
     } else {
@@ -247,6 +240,11 @@ pub fn measured_entry(ratio: u16, input: u32, output: u32, uncertainty: u32) -> 
     ensures { λ r. ⌜ r ≡ entryOf ratio input output uncertainty ⌝ }
 {
     let allowed = allowance(ratio, input, output);
-    let gained = 20 * at_ratio(input, ratio) + part_above(200 * (uncertainty as u64), allowed);
-    rounded_up(part_above(gained, 20000 * (output as u64)), 20000)
+    let more = arith::part_above(200 * (uncertainty as u64), allowed);
+    let gained = 20 * at_ratio(input, ratio);
+    let spent = 20000 * (output as u64);
+    if spent <= gained {
+        return rounded_up(gained - spent + more, 20000);
+    }
+    rounded_up(arith::part_above(gained + more, spent), 20000)
 }

@@ -1,15 +1,14 @@
 -- Loops that copy a row to the first places of a list, and rows one after the other. Assumes nothing.
-use Prim.Native.Nat.{ℕ, zero, suc, _+_, _-_, _*_, _≤_, _<_}
-use mathlib.Core.Path.{_≡_, refl, sym, ap, _∙_}
+use Prim.Native.Nat.{ℕ, suc, _+_, _-_, _*_, _≤_, _<_}
+use mathlib.Core.Path.{_≡_, refl, sym, _∙_}
 use mathlib.Core.List.{List, [], _∷_, _++_, append-assoc}
 use native.Mathlib.Omega.{arith}
 use native.Mathlib.Numerals.{add-one}
-use lib.ListN.{length, getD, take, drop, set, length-append, length-drop}
+use lib.ListN.{length, getD, take, drop, set, length-append, length-drop, length-take}
 use native.Mathlib.Nat.{mul-le-mul-right, suc-mul}
-use lib.ListN.{length-take}
 use lib.Seq.{drop-cons, set-at, take-at, take-suc, take-all, length-take-le}
 use Rattle.grid.specs.Lists.{joined}
-use Rattle.map.proofs.Joining.{joined-same, joined-stretch}
+use Rattle.grid.proofs.Lists.{joined-same, joined-stretch}
 use Rattle.map.specs.Answers.{stretch}
 
 pub record Copying (row before now : List ℕ) (i : ℕ) : Type 0 where

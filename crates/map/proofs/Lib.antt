@@ -1,8 +1,3 @@
-pub mod RowChecks
-pub mod Torques
-pub mod Filling
-pub mod Joining
-pub mod SpeedParts
 pub mod Copying
 pub mod StandardRows
 pub mod Maps

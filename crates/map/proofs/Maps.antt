@@ -1,37 +1,29 @@
 -- What is built of data that was read: too few lent entries, standard data, and measured data row by row. Assumes nothing.
 use Prim.Native.Nat.{ℕ, zero, suc, _+_, _-_, _*_, _≤_, _<_}
-use mathlib.Core.Path.{_≡_, refl, sym, ap, _∙_}
-use mathlib.Core.List.{List, _++_}
+use mathlib.Core.Path.{_≡_, refl, sym, ap}
+use mathlib.Core.List.{List}
 use native.Mathlib.Omega.{arith}
 use borrow.Author.Tests.{le-leb, lt-leb}
-use lib.ListN.{length, getD, take, drop, length-take}
+use lib.ListN.{length, drop}
 use lib.Seq.{drop-drop}
-use Rattle.refusal.specs.Outcome.{Told, Outcome, accepted, refused, refuse, require, _>>=_, if_then_else_, placed, firstRefusal}
+use Rattle.refusal.specs.Outcome.{Told, Outcome, accepted, refused, refuse, firstRefusal}
 use Rattle.refusal.proofs.First.{first-of}
-use Rattle.component.specs.Bytes.{numberOf, between}
-use Rattle.component.specs.Component.{Component, Kind, Rows, standard, measured}
-use Rattle.component.specs.declared.sensor.Sensor.{Sensor}
+use Rattle.fields.specs.Bytes.{between}
+use Rattle.component.specs.Component.{Component, Rows, standard, measured}
+use Rattle.sensor.specs.declared.Sensor.{Sensor}
 use Rattle.loss.specs.Measured.{measuredEntry}
-use Rattle.grid.specs.Lists.{tabulate, joined}
-use Rattle.map.specs.Rows.{Torques, Bench, rowAt, rowOf, rowCheck}
-use Rattle.map.specs.Build.{points, torqueCount, entry, entryOfKind, check, checkOfKind, speedCheck, rowsCheck, speedEntries, entries, mapOf, LossMap}
-use Rattle.map.specs.Answers.{partCheck, partEntry, speedPartCheck, speedPartEntries, standardAt, standardRow}
+use Rattle.grid.specs.Lists.{joined}
+use Rattle.rows.specs.Rows.{Torques, rowAt, rowOf}
+use Rattle.grid.proofs.Lists.{tabulate-same, joined-same}
+use Rattle.map.specs.Build.{points, entry, entryOfKind, check, checkOfKind, speedCheck, rowsCheck, speedEntries, entries, mapOf}
+use Rattle.map.specs.Answers.{standardAt, standardRow}
+use Rattle.rows.specs.Answers.{partCheck, partEntry, speedPartCheck, speedPartEntries}
 
 -- tests that are alike give the same first refusal
 first-same : (f g : ℕ → Outcome (Unit {0})) → ((i : ℕ) → f i ≡ g i) → (i count : ℕ) → firstRefusal f i count ≡ firstRefusal g i count
 unfolding firstRefusal
 first-same f g e i zero = refl
 first-same f g e i (suc count) = rw (e i, first-same f g e (suc i) count)
-
-tabulate-same : (f g : ℕ → ℕ) → ((i : ℕ) → f i ≡ g i) → (count : ℕ) → tabulate f count ≡ tabulate g count
-unfolding tabulate
-tabulate-same f g e zero = refl
-tabulate-same f g e (suc count) = rw (tabulate-same f g e count, e count)
-
-joined-alike : (f g : ℕ → List ℕ) → ((i : ℕ) → f i ≡ g i) → (count : ℕ) → joined f count ≡ joined g count
-unfolding joined
-joined-alike f g e zero = refl
-joined-alike f g e (suc count) = rw (joined-alike f g e count, e count)
 
 -- fewer entries are lent than there are points
 pub too-few : (c : Component) (lent : ℕ) → lent < points c → refuse 11 (points c) ≡ mapOf c lent
@@ -93,4 +85,4 @@ module _ (line ratio : ℕ) (speeds torques : List ℕ) (input output : Sensor) 
   pub measured-entries : joined (speedPartEntries (record { ratio = ratio; input = input; output = output }) torques (rows .bytes)) (length speeds)
       ≡ entries (record { kind = measured input output rows; line = line; ratio = ratio; speeds = speeds; torques = torques })
   unfolding entries speedEntries entry speedPartEntries
-  measured-entries = joined-alike _ _ (λ i. tabulate-same _ _ (λ j. part-entry i j) (length torques)) (length speeds)
+  measured-entries = joined-same _ _ (length speeds) (λ i h. tabulate-same _ _ (λ j. part-entry i j) (length torques))

@@ -1,53 +1,34 @@
 -- What the build of data that was read gives, in each of its cases. Assumes nothing.
-use Prim.Native.Nat.{ℕ, _+_, _-_, _*_, _≤_, _<_}
+use Prim.Native.Nat.{ℕ, _+_, _*_, _≤_, _<_}
 use mathlib.Core.Path.{_≡_, refl, sym, ap, _∙_}
-use mathlib.Core.Bool.{true, false}
-use mathlib.Core.List.{List, _++_}
+use mathlib.Core.List.{List}
 use native.Mathlib.Omega.{arith}
 use native.Mathlib.Nat.{mul-le-mul, le-of-eq}
 use borrow.Author.Tests.{eq-eqb, ne-eqb}
-use lib.Dec.{eqb}
-use lib.ListN.{length, getD, take, drop, length-take, length-drop}
+use lib.ListN.{length, take, length-take, length-drop}
 use lib.Seq.{take-at}
-use Rattle.refusal.specs.Outcome.{Told, Outcome, accepted, refused, refuse, if_then_else_, firstRefusal}
-use Rattle.refusal.specs.Table.{told}
+use Rattle.refusal.specs.Outcome.{accepted, firstRefusal}
+use Rattle.refusal.specs.Table.{told, answerSays}
 use Rattle.grid.specs.Map.{speedsOf, torquesOf}
 use Rattle.grid.specs.declared.Grid.{Grid}
-use Rattle.component.specs.Bytes.{between}
-use Rattle.component.specs.Component.{Kind, standard, measured, component, Component as ComponentSays}
-use Rattle.component.specs.Answers.{CountsWithin, Within, componentOf, rowsOf}
+use Rattle.fields.specs.Bytes.{between}
+use Rattle.component.specs.Component.{standard, measured, Component as ComponentSays}
+use Rattle.component.specs.Answers.{componentOf, rowsOf}
 use Rattle.component.specs.declared.Component.{Component}
-use Rattle.component.specs.declared.sensor.Sensor.{Sensor}
-use Rattle.layout.specs.Rules.{AreBytes, Rules, KindRules, SensorRules}
+use Rattle.layout.specs.Rules.{AreBytes, Rules, KindRules}
 use Rattle.layout.proofs.Theorems.{sound}
-use Rattle.loss.specs.Measured.{InRange, fixedParts}
-use Rattle.grid.specs.Lists.{joined}
-use Rattle.map.specs.Rows.{Bench}
-use Rattle.map.specs.Build.{points, entries, mapOf, rowsCheck, content, LossMap}
-use Rattle.map.specs.Answers.{AtMost, PartsRight, BenchRight, benchOf, standardRow, speedPartCheck, speedPartEntries, rowsAnswerOf, Written, rowsToAnswer, answerOf, ReadAs, BuildsEntries}
-use Rattle.map.specs.declared.Answer.the-variants.{Accepted, Refused}
-use Rattle.map.specs.declared.Bench.{Bench as BenchParts}
-use Rattle.map.specs.declared.RowsAnswer.{RowsAnswer}
-use Rattle.map.specs.declared.RowsAnswer.the-variants.{Fine, Refused as RowsRefused}
+use Rattle.loss.specs.Measured.{fixedParts}
+use Rattle.grid.specs.Lists.{joined, overwritten}
+use Rattle.map.specs.Build.{points, entries, mapOf, rowsCheck, content}
+use Rattle.map.specs.Answers.{NoneAbove, standardRow, EntriesWritten, answerOf, ReadAs, BuildsEntries}
+use Rattle.rows.specs.Answers.{speedPartCheck, speedPartEntries, BenchRight, benchOf}
+use Rattle.refusal.specs.declared.Answer.{Answer}
+use Rattle.refusal.specs.declared.Answer.the-variants.{Accepted, Refused}
+use Rattle.rows.specs.declared.Bench.{Bench as BenchParts}
 use Rattle.refusal.specs.declared.Refusal.the-variants.{TooShort}
-use Rattle.map.proofs.Filling.{length-tabulate}
-use Rattle.map.proofs.Joining.{length-joined}
-use Rattle.map.proofs.SpeedParts.{speed-size}
+use Rattle.grid.proofs.Lists.{length-tabulate, length-joined}
+use Rattle.rows.proofs.SpeedParts.{speed-size}
 use Rattle.map.proofs.Maps.{too-few, rows-refused, rows-fine, standard-checked, standard-entries, measured-checked, measured-entries}
-
--- a sensor that keeps the rules of tags 6 and 7 is in the ranges that the loss needs
-sensor-in-range : (s : Sensor) → SensorRules s → InRange s
-sensor-in-range s r = record {
-  nominal = r .nominal .1;
-  sensitivity = r .sensitivity .1;
-  zero = r .zero .1;
-  calibration = r .calibration .1;
-  least-advancement = r .advancement .0;
-  parasitic = r .parasitic .1;
-  share = r .share .1;
-  difference = r .difference .1;
-  least-span = r .span .0;
-}
 
 -- the place past a part of the data is within the data
 pub part-within : (bytes : List ℕ) (start end limit : ℕ) → start ≤ end → end ≤ length bytes → length bytes < limit → start + length (between bytes start end) < limit
@@ -56,7 +37,7 @@ part-within bytes start end limit h k l = simp (length-take, length-drop) (omega
 -- once all rows are fine and the entries are written
 finished : (says : ComponentSays) (grid : Grid) (before after new : List ℕ) → says .speeds ≡ speedsOf (grid .speeds) → says .torques ≡ torquesOf (grid .torques)
     → new ≡ entries says → length new ≡ grid .speeds .count * grid .torques .count → points says ≤ length before → accepted tt ≡ rowsCheck says
-    → after ≡ new ++ drop (length new) before
+    → after ≡ overwritten new before
     → (answerOf Accepted grid after ≡ mapOf says (length before)) × (after ≡ content (mapOf says (length before)) before)
 finished says grid before after new s t e l room fine w =
     let m = rows-fine says (length before) room fine in
@@ -93,7 +74,7 @@ module _ (bytes : List ℕ) (c : Component) (r : ReadAs bytes c) (torques : List
     pub ratio-most : c .ratio ≤ 20000
     ratio-most = rules .ratio .1
 
-    pub torques-most : AtMost torques 50000
+    pub torques-most : NoneAbove torques 50000
     torques-most = rw e (λ i h. rules .torques .ranges i h .1)
 
     -- ---- standard data
@@ -102,8 +83,7 @@ module _ (bytes : List ℕ) (c : Component) (r : ReadAs bytes c) (torques : List
           ≡ record { kind = standard; line = c .line; ratio = c .ratio; speeds = speedsOf (c .grid .speeds); torques = torquesOf (c .grid .torques) }
       standard-says = rw (eq-eqb (c .kind) 1 kind)
 
-      pub standard-built : after ≡ joined (standardRow (c .line) (c .ratio) torques) (c .grid .speeds .count)
-          ++ drop (length (joined (standardRow (c .line) (c .ratio) torques) (c .grid .speeds .count))) before
+      pub standard-built : after ≡ overwritten (joined (standardRow (c .line) (c .ratio) torques) (c .grid .speeds .count)) before
           → BuildsEntries bytes before after c Accepted
       unfolding standardRow
       standard-built w =
@@ -132,8 +112,8 @@ module _ (bytes : List ℕ) (c : Component) (r : ReadAs bytes c) (torques : List
           → BenchRight b
       bench-right b h = record {
         ratio = rw (h .0) ratio-most;
-        input = record { ranges = rw (h .1) (sensor-in-range (c .input) (kind-rules .0)); fixed = h .2 ∙ ap fixedParts (sym (h .1)) };
-        output = record { ranges = rw (h .3) (sensor-in-range (c .output) (kind-rules .1)); fixed = h .4 ∙ ap fixedParts (sym (h .3)) };
+        input = record { rules = rw (h .1) (kind-rules .0); fixed = h .2 ∙ ap fixedParts (sym (h .1)) };
+        output = record { rules = rw (h .3) (kind-rules .1); fixed = h .4 ∙ ap fixedParts (sym (h .3)) };
       }
 
       pub rows-long : 8 * (c .grid .speeds .count * length torques) ≤ length (between bytes (c .rows .start) (c .rows .end))
@@ -154,15 +134,15 @@ module _ (bytes : List ℕ) (c : Component) (r : ReadAs bytes c) (torques : List
             rw (measured-says, ← measured-entries (c .line) (c .ratio) (speedsOf (c .grid .speeds)) (torquesOf (c .grid .torques)) (c .input) (c .output) (rowsOf bytes (c .rows)), r .counts .speeds-length, e, bench-is)
             refl
 
-        pub measured-built : (a : RowsAnswer)
-            → rowsAnswerOf a ≡ firstRefusal (speedPartCheck (benchOf b) torques (between bytes (c .rows .start) (c .rows .end)) (c .rows .start)) 0 (c .grid .speeds .count)
-            → Written a after (joined (speedPartEntries (benchOf b) torques (between bytes (c .rows .start) (c .rows .end))) (c .grid .speeds .count)) before
-            → BuildsEntries bytes before after c (rowsToAnswer a)
-        measured-built Fine q w =
+        pub measured-built : (a : Answer)
+            → answerSays a ≡ firstRefusal (speedPartCheck (benchOf b) torques (between bytes (c .rows .start) (c .rows .end)) (c .rows .start)) 0 (c .grid .speeds .count)
+            → EntriesWritten a after (joined (speedPartEntries (benchOf b) torques (between bytes (c .rows .start) (c .rows .end))) (c .grid .speeds .count)) before
+            → BuildsEntries bytes before after c a
+        measured-built Accepted q w =
             let new = joined (speedPartEntries (benchOf b) torques (between bytes (c .rows .start) (c .rows .end))) (c .grid .speeds .count) in
             let long : length new ≡ c .grid .speeds .count * c .grid .torques .count = length-joined _ (length torques) _ (speed-size _ _ _ _) ∙ rw count-is refl in
             let f = finished (componentOf bytes c) (c .grid) before after _ refl refl written-entries long (rw points-are room) (q ∙ checked) w in
             record { outcome = f .0; written = f .1 }
-        measured-built (RowsRefused x) q w =
+        measured-built (Refused x) q w =
             let m = rows-refused (componentOf bytes c) (length before) (told x) (rw points-are room) (q ∙ checked) in
             record { outcome = m; written = rw (← m) w }

@@ -1,12 +1,10 @@
 -- Standard entries are never above 10,000,000. Assumes nothing.
-use Prim.Native.Nat.{ℕ, suc, _+_, _-_, _*_, _≤_, _<_}
-use mathlib.Core.Path.{_≡_, refl, sym, ap, _∙_}
+use Prim.Native.Nat.{ℕ, _+_, _-_, _*_, _≤_, _<_}
 use native.Mathlib.Omega.{arith}
 use native.Mathlib.Nat.{mul-le-mul, le-refl}
 use lib.ListN.{getD}
-use Rattle.arith.specs.Quotient.{quotientUp, quotientUp-law, quotientUp-least}
-use Rattle.loss.specs.Standard.{LineFacts, lineOf, lines, noLine, standardEntry}
-use Rattle.loss.specs.declared.Line.{Line}
+use Rattle.arith.specs.Quotient.{quotientUp-law, quotientUp-least}
+use Rattle.loss.specs.Standard.{lines, noLine, standardEntry}
 use Rattle.loss.proofs.Lines.{line-facts, line-at}
 use Rattle.loss.proofs.Values.{standard-entry-is}
 

@@ -1,7 +1,7 @@
 -- What the build leaves is a map: its axes keep their rules and none of its entries is above 10,000,000. Assumes nothing.
 use Prim.Native.Nat.{ℕ, zero, suc, _+_, _*_, _/_, _%_, _≤_, _<_}
-use mathlib.Core.Path.{_≡_, refl, sym, ap, _∙_}
-use mathlib.Core.Bool.{Bool, true, false, not}
+use mathlib.Core.Path.{_≡_, sym, ap, _∙_}
+use mathlib.Core.Bool.{true}
 use mathlib.Core.List.{List, [], _∷_}
 use mathlib.Core.Logic.{⊎-elim}
 use native.Mathlib.Omega.{arith}
@@ -10,7 +10,7 @@ use borrow.Author.Tests.{leb-true}
 use lib.Dec.{leb}
 use lib.ListN.{length, getD, take, length-take, List·getD-append}
 use lib.Seq.{getD-at, getD-append-add, getD-take}
-use Rattle.refusal.specs.Outcome.{accepted, require, _>>=_}
+use Rattle.refusal.specs.Outcome.{accepted}
 use Rattle.refusal.proofs.Steps.{same-value, then-accepted, test-accepted, placed-accepted}
 use Rattle.refusal.proofs.First.{first-all}
 use Rattle.grid.specs.Lists.{tabulate, joined}
@@ -19,16 +19,14 @@ use Rattle.grid.specs.declared.Range.{Range}
 use Rattle.grid.specs.Rules.{AxisRules}
 use Rattle.grid.proofs.Map.{map-of}
 use Rattle.component.specs.Component.{Component, Kind, standard, measured, component}
+use Rattle.rows.proofs.Acceptance.{row-right}
 use Rattle.layout.specs.Rules.{AreBytes, Rules}
 use Rattle.layout.proofs.Theorems.{sound}
-use Rattle.loss.specs.Measured.{lossIsUnderZero, measuredEntry}
-use Rattle.map.specs.Rows.{Bench, Torques, rowOf, nearAxis, rowCheck}
 use Rattle.map.specs.Build.{LossMap, points, torqueCount, entry, entryOfKind, check, checkOfKind, speedCheck, rowsCheck, speedEntries, entries, mapOf, build}
 use Rattle.map.specs.Answers.{Builds}
 use Rattle.map.specs.declared.Built.{Built}
-use Rattle.map.specs.declared.Answer.the-variants.{Accepted}
-use Rattle.map.proofs.Filling.{length-tabulate}
-use Rattle.map.proofs.Joining.{length-joined}
+use Rattle.refusal.specs.declared.Answer.the-variants.{Accepted}
+use Rattle.grid.proofs.Lists.{length-tabulate, length-joined}
 use Rattle.grid.proofs.Points.{row-within}
 use Rattle.map.proofs.StandardRows.{standard-most}
 
@@ -105,23 +103,10 @@ built-from bytes lent m e =
     }
 
 -- ---- no entry is above 10,000,000
-row-small : (bench : Bench) (torque : ℕ) (t : Torques) → rowCheck bench torque t ≡ accepted tt → measuredEntry (rowOf bench t) ≤ 10000000
-unfolding rowCheck
-row-small bench torque t e =
-    let a = test-accepted (leb (t .input) (100 * bench .input .nominal)) 7 0 _ tt e .1 in
-    let b = test-accepted (leb (t .output) (100 * bench .output .nominal)) 7 4 _ tt a .1 in
-    let c = test-accepted (nearAxis torque (t .output)) 8 4 _ tt b .1 in
-    let d = test-accepted (not (lossIsUnderZero (bench .ratio) (t .input) (t .output))) 9 0 _ tt c .1 in
-    leb-true _ _ (last (leb (measuredEntry (rowOf bench t)) 10000000) d)
-  where
-    last : (b : Bool) → require b 10 0 ≡ accepted tt → b ≡ true
-    last true h = refl
-    last false h = let z : _≡_ {A = ℕ} 0 1 = cc in absurd (omega arith)
-
 kind-small : (c : Component) (kind : Kind) (s j : ℕ) → Rules c → j < torqueCount c → checkOfKind c s j kind ≡ accepted tt → entryOfKind c s j kind ≤ 10000000
 unfolding checkOfKind entryOfKind
 kind-small c standard s j r h e = standard-most _ _ _ (r .line .0) (r .line .1) (r .ratio .1) (r .torques .ranges j h .1)
-kind-small c (measured input output rows) s j r h e = row-small _ _ _ (placed-accepted _ _ tt e)
+kind-small c (measured input output rows) s j r h e = row-right _ _ _ (placed-accepted _ _ tt e) .small
 
 pub entry-small : (c : Component) (s j : ℕ) → Rules c → rowsCheck c ≡ accepted tt → s < length (c .speeds) → j < torqueCount c → entry c s j ≤ 10000000
 unfolding rowsCheck speedCheck check entry

@@ -1,27 +1,25 @@
 -- What the whole build gives, from the reading of the data and from the entries. Assumes nothing.
-use Prim.Native.Nat.{ℕ, _≤_}
-use mathlib.Core.Path.{_≡_, refl, sym, ap, _∙_}
+use Prim.Native.Nat.{ℕ}
+use mathlib.Core.Path.{_≡_}
 use mathlib.Core.List.{List}
-use native.Mathlib.Omega.{arith}
 use lib.ListN.{length}
-use Rattle.refusal.specs.Outcome.{Outcome, accepted, refused, _>>=_}
+use Rattle.refusal.specs.Outcome.{refused}
 use Rattle.refusal.specs.Table.{told}
 use Rattle.refusal.specs.declared.Refusal.{Refusal}
 use Rattle.component.specs.Component.{component}
-use Rattle.component.specs.Answers.{CountsWithin, Reads, readingOf, componentOf}
+use Rattle.component.specs.Answers.{Reads, componentOf}
 use Rattle.component.specs.declared.Component.{Component}
 use Rattle.component.specs.declared.Reading.{Reading}
-use Rattle.component.specs.declared.Answer.the-variants.{Accepted as ReadAccepted, Refused as ReadRefused}
 use Rattle.component.proofs.Readings.{no-counts}
-use Rattle.map.specs.Build.{mapOf, build, content}
-use Rattle.map.specs.Answers.{answerOf, ReadAs, BuildsEntries, WithGrid, Builds}
-use Rattle.map.specs.declared.Answer.{Answer}
-use Rattle.map.specs.declared.Answer.the-variants.{Accepted, Refused}
+use Rattle.map.specs.Build.{mapOf, build}
+use Rattle.map.specs.Answers.{ReadAs, BuildsEntries, WithGrid, Builds}
+use Rattle.refusal.specs.declared.Answer.{Answer}
+use Rattle.refusal.specs.declared.Answer.the-variants.{Accepted, Refused}
 use Rattle.map.specs.declared.Built.{Built}
 
 module _ (bytes : List ℕ) where
   -- data that the reader refuses
-  pub reading-refused : (reading : Reading) (x : Refusal) (r : Built) (before : List ℕ) → Reads bytes reading → reading .answer ≡ ReadRefused x
+  pub reading-refused : (reading : Reading) (x : Refusal) (r : Built) (before : List ℕ) → Reads bytes reading → reading .answer ≡ Refused x
       → (r .answer ≡ Refused x) × (r .grid .speeds .count ≡ 0) × (r .grid .torques .count ≡ 0) → Builds bytes before before r
   unfolding build
   reading-refused reading x r before p e h =
@@ -34,7 +32,7 @@ module _ (bytes : List ℕ) where
       }
 
   -- data that it accepts
-  pub reading-accepted : (reading : Reading) → Reads bytes reading → reading .answer ≡ ReadAccepted → ReadAs bytes (reading .component)
+  pub reading-accepted : (reading : Reading) → Reads bytes reading → reading .answer ≡ Accepted → ReadAs bytes (reading .component)
   reading-accepted reading p e = record { read = rw e at (p .outcome); counts = p .counts; rows = p .rows }
 
   after-reading : (c : Component) (lent : ℕ) → ReadAs bytes c → build bytes lent ≡ mapOf (componentOf bytes c) lent

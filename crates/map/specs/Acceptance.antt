@@ -1,44 +1,16 @@
 -- A build is accepted exactly when no refusal applies: 1 to 6 and 12 as in the reading of the data, 11, and 7 to 10 said of each row.
 use Prim.Native.Nat.{ℕ, _+_, _*_, _≤_, _<_}
 use mathlib.Core.Path.{_≡_}
-use mathlib.Core.Bool.{false, true}
 use mathlib.Core.List.{List}
-use mathlib.Core.Logic.{_⊎_}
 use lib.ListN.{length, getD}
 use Rattle.refusal.specs.Outcome.{refusal, Told, accepted, refused}
-use Rattle.component.specs.Component.{Component, Kind, standard, measured, component}
+use Rattle.component.specs.Component.{Component, Kind, standard, measured}
 use Rattle.layout.specs.Layout.{layout}
 use Rattle.layout.specs.Rules.{AreBytes, Rules}
 use Rattle.layout.specs.Acceptance.{Fault}
-use Rattle.loss.specs.Measured.{lossIsUnderZero, measuredEntry}
-use Rattle.map.specs.Rows.{Torques, Bench, rowAt, rowOf}
+use Rattle.rows.specs.Rows.{rowAt}
+use Rattle.rows.specs.Acceptance.{RowRules, RowFault}
 use Rattle.map.specs.Build.{LossMap, points, torqueCount, pointIndex, entries, build}
-
--- ---- one row
--- the rules that a row keeps: none of 7 to 10 applies
-pub record RowRules (bench : Bench) (torque : ℕ) (t : Torques) : Type 0 where
-  pub input : t .input ≤ 100 * bench .input .nominal
-  pub output : t .output ≤ 100 * bench .output .nominal
-  pub not-over : t .output ≤ 100 * torque + 500
-  pub not-under : 100 * torque ≤ t .output + 500
-  pub loss : lossIsUnderZero (bench .ratio) (t .input) (t .output) ≡ false
-  pub small : measuredEntry (rowOf bench t) ≤ 10000000
-
--- the first condition that a row meets; its first byte is at a place
-pub data RowFault (bench : Bench) (torque : ℕ) (t : Torques) (place : ℕ) (told : Told) : Type 0 where
-  -- 7: "measured torque above its sensor's N", input
-  input-above : 100 * bench .input .nominal < t .input → told ≡ refusal 7 place → RowFault bench torque t place told
-  -- 7, output
-  output-above : t .input ≤ 100 * bench .input .nominal → 100 * bench .output .nominal < t .output → told ≡ refusal 7 (place + 4) → RowFault bench torque t place told
-  -- 8: "output torque over 5.00 Nm from its axis torque"
-  off-axis : t .input ≤ 100 * bench .input .nominal → t .output ≤ 100 * bench .output .nominal
-      → (100 * torque + 500 < t .output) ⊎ (t .output + 500 < 100 * torque) → told ≡ refusal 8 (place + 4) → RowFault bench torque t place told
-  -- 9: "measured loss under zero"
-  negative : t .input ≤ 100 * bench .input .nominal → t .output ≤ 100 * bench .output .nominal → t .output ≤ 100 * torque + 500 → 100 * torque ≤ t .output + 500
-      → lossIsUnderZero (bench .ratio) (t .input) (t .output) ≡ true → told ≡ refusal 9 place → RowFault bench torque t place told
-  -- 10: "entry above 10,000,000 hundredths"
-  too-large : t .input ≤ 100 * bench .input .nominal → t .output ≤ 100 * bench .output .nominal → t .output ≤ 100 * torque + 500 → 100 * torque ≤ t .output + 500
-      → lossIsUnderZero (bench .ratio) (t .input) (t .output) ≡ false → 10000000 < measuredEntry (rowOf bench t) → told ≡ refusal 10 place → RowFault bench torque t place told
 
 -- ---- the row of a point; standard data has none
 abbrev pub PointRules : Component → (speed torque : ℕ) → Kind → Type 0

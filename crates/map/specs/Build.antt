@@ -1,14 +1,14 @@
 -- Document 01, "Refusals" and "Code places and language forms": the build of a map. "Fields in their order, then 12, then 11, then rows in order".
 use Prim.Native.Nat.{ℕ, _+_, _*_}
-use mathlib.Core.List.{List, _++_}
+use mathlib.Core.List.{List}
 use lib.Dec.{leb}
-use lib.ListN.{length, getD, drop}
+use lib.ListN.{length, getD}
 use Rattle.refusal.specs.Outcome.{Outcome, accepted, refused, _>>=_, require, placed, firstRefusal}
 use Rattle.component.specs.Component.{Component, Kind, standard, measured, component}
 use Rattle.loss.specs.Standard.{standardEntry}
 use Rattle.loss.specs.Measured.{measuredEntry}
-use Rattle.grid.specs.Lists.{tabulate, joined}
-use Rattle.map.specs.Rows.{Bench, rowAt, rowOf, rowCheck}
+use Rattle.grid.specs.Lists.{tabulate, joined, overwritten}
+use Rattle.rows.specs.Rows.{rowAt, rowOf, rowCheck}
 
 -- how many torques there are for each speed, and how many points in all
 abbrev pub torqueCount : Component → ℕ
@@ -75,5 +75,5 @@ build bytes lent = do
 
 -- "A refused build writes no entry. An accepted one .. touches nothing beyond the last."
 abbrev pub content : Outcome LossMap → List ℕ → List ℕ
-content (accepted m) lent = m .entries ++ drop (length (m .entries)) lent
+content (accepted m) lent = overwritten (m .entries) lent
 content (refused t) lent = lent

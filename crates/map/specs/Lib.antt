@@ -1,4 +1,3 @@
-pub mod Rows
 pub mod Build
 pub mod Answers
 pub mod Acceptance

@@ -2,6 +2,7 @@
 use Prim.Native.Nat.{ℕ, zero, suc, _+_, _-_, _≤_, _<_}
 use mathlib.Core.Path.{_≡_, refl, sym, _∙_}
 use native.Mathlib.Numerals.{add-one}
+use native.Mathlib.Nat.{sub-zero}
 use native.Mathlib.Omega.{arith}
 use native.Mathlib.Decide.{decLt}
 use Rattle.refusal.specs.Outcome.{Told, Outcome, accepted, refused, _>>=_, firstRefusal}
@@ -38,6 +39,25 @@ first-rest test n (suc i) h f =
 pub first-refused : (test : ℕ → Outcome (Unit {0})) (n i : ℕ) (t : Told) → i < n → ((k : ℕ) → k < i → test k ≡ accepted tt) → test i ≡ refused t
     → firstRefusal test 0 n ≡ refused t
 first-refused test n i t h f e = first-rest test n i (omega arith) f ∙ first-stops test i n t h e
+
+-- ---- a loop over the tests: the first i were accepted, and the rest decides
+pub record Passed (test : ℕ → Outcome (Unit {0})) (count i : ℕ) : Type 0 where
+  pub below : i ≤ count
+  pub rest : firstRefusal test 0 count ≡ firstRefusal test i (count - i)
+
+module _ (test : ℕ → Outcome (Unit {0})) (count : ℕ) where
+  pub none-passed : Passed test count 0
+  none-passed = record { below = omega arith; rest = rw sub-zero }
+
+  module _ {i : ℕ} (p : Passed test count i) where
+    pub one-passed : i < count → test i ≡ accepted tt → Passed test count (i + 1)
+    one-passed more fine = record { below = omega arith; rest = p .rest ∙ first-more test i count more fine }
+
+    pub refused-there : i < count → (t : Told) → test i ≡ refused t → refused t ≡ firstRefusal test 0 count
+    refused-there more t e = sym (p .rest ∙ first-stops test i count t more e)
+
+    pub all-passed : count ≤ i → accepted tt ≡ firstRefusal test 0 count
+    all-passed end = sym (p .rest ∙ first-none test i count end)
 
 -- both parts of a sequence that is accepted
 then-fst : (o next : Outcome (Unit {0})) → (o >>= λ _. next) ≡ accepted tt → o ≡ accepted tt

@@ -1,10 +1,10 @@
 -- What a sequence of steps says of each step. Assumes nothing.
 use Prim.Native.Nat.{ℕ}
-use mathlib.Core.Path.{_≡_, refl, sym, ap, _∙_}
+use mathlib.Core.Path.{_≡_, refl, sym, ap}
 use mathlib.Core.Bool.{Bool, true, false}
 use mathlib.Core.Logic.{_⊎_, inl, inr}
 use native.Mathlib.Omega.{arith}
-use Rattle.refusal.specs.Outcome.{Told, refusal, Outcome, accepted, refused, _>>=_, require, if_then_else_, placed}
+use Rattle.refusal.specs.Outcome.{Told, refusal, Outcome, accepted, refused, _>>=_, require, placed}
 
 -- a refusal is no value
 pub never : {A P : Type 0} (t : Told) (a : A) → _≡_ {A = Outcome A} (refused t) (accepted a) → P

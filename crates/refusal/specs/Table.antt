@@ -1,8 +1,10 @@
 -- Document 01, "Refusals": the number and the place of each case. Where no place is given it is 0.
 use Prim.Native.Nat.{ℕ}
-use Rattle.refusal.specs.Outcome.{Told, refusal}
+use Rattle.refusal.specs.Outcome.{Told, refusal, Outcome, accepted, refused}
 use Rattle.refusal.specs.declared.Refusal.{Refusal}
 use Rattle.refusal.specs.declared.Refusal.the-variants.{Incomplete, WrongTag, WrongLength, OutOfRange, NotRising, FirstTorqueAboveStep, AboveNominal, OffAxisTorque, NegativeLoss, EntryTooLarge, TooShort, TrailingBytes, SpeedOutside, TorqueAbove, NotAMap}
+use Rattle.refusal.specs.declared.Answer.{Answer}
+use Rattle.refusal.specs.declared.Answer.the-variants.{Accepted, Refused}
 
 abbrev pub number : Refusal → ℕ
 number (Incomplete p) = 1
@@ -40,3 +42,8 @@ place NotAMap = 0
 
 abbrev pub told : Refusal → Told
 told r = refusal (number r) (place r)
+
+-- an answer with no value of its own
+abbrev pub answerSays : Answer → Outcome (Unit {0})
+answerSays Accepted = accepted tt
+answerSays (Refused x) = refused (told x)

@@ -83,3 +83,9 @@ impl Refusal {
         }
     }
 }
+
+// What comes of a call whose value, if it has one, stands beside the answer.
+pub enum Answer {
+    Accepted,
+    Refused(Refusal),
+}

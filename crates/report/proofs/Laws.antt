@@ -20,11 +20,11 @@ use Rattle.layout.proofs.Lengths.{beginning-decides}
 use Rattle.map.specs.Build.{points, build}
 use Rattle.map.specs.Answers.{Builds}
 use Rattle.map.specs.declared.Built.{Built}
-use Rattle.map.specs.declared.Answer.the-variants.{Accepted, Refused}
-use Rattle.map.proofs.Joining.{joined-same}
+use Rattle.refusal.specs.declared.Answer.the-variants.{Accepted, Refused}
+use Rattle.grid.proofs.Lists.{joined-same}
 use Rattle.grid.proofs.Points.{row-within}
 use Rattle.map.proofs.Valid.{is-built, is-map}
-use Rattle.listing.specs.Listing.{listing, rows, row, rowAt, refusalLine, fitted, listed}
+use Rattle.listing.specs.Listing.{listing, rows, row, rowOfSpeed, refusalLine, fitted, listed}
 use Rattle.listing.specs.Answers.{listingAnswerOf, contentOf}
 use Rattle.listing.specs.declared.ListingAnswer.{ListingAnswer}
 use Rattle.listing.proofs.Fitted.{listed-map, fitted-whole}
@@ -33,7 +33,7 @@ use Rattle.report.specs.Report.{reportOf, report, Reports, LimitLosesNot
 
 -- ---- the listing looks at the first count numbers and entries alone
 module _ (speeds torques entries : List ℕ) (m n : ℕ) where
-  row-same : (i : ℕ) → i < m → rowAt speeds torques n entries i ≡ rowAt (take m speeds) (take n torques) n (take (m * n) entries) i
+  row-same : (i : ℕ) → i < m → rowOfSpeed speeds torques n entries i ≡ rowOfSpeed (take m speeds) (take n torques) n (take (m * n) entries) i
   unfolding row
   row-same i h =
       rw (getD-take m speeds i 0 h)

@@ -1,6 +1,6 @@
 // What the map program writes for component data: the listing of its map, or the line of its refusal.
 use listing::ListingAnswer;
-use map::Answer;
+use refusal::Answer;
 ghost use Rattle.report.specs.Report.{Reports};
 
 // Builds the map into the lent entries, and writes the report from the start of the lent text.

@@ -1,14 +1,14 @@
 // What the benchmark measures and the library for C does not export: roots rounded up, many in one call.
 ghost use mathlib.Core.Path.{_≡_};
-ghost use mathlib.Core.List.{_++_};
 ghost use Prim.Native.Nat.{_≤_};
-ghost use lib.ListN.{length, drop};
+ghost use lib.ListN.{length};
+ghost use Rattle.grid.specs.Lists.{overwritten};
 ghost use Rattle.timing.specs.Roots.{rootsOf, content};
 
 // Writes the root of each number to the first places of what is lent.
 fn fill_roots(numbers: &[u64], roots: &mut [u64])
     requires { ⌜ length (now numbers) ≤ length (now roots) ⌝ }
-    ensures { λ r. ⌜ now (roots .exit) ≡ rootsOf (now (numbers .entry)) ++ drop (length (now (numbers .entry))) (now (roots .entry)) ⌝ }
+    ensures { λ r. ⌜ now (roots .exit) ≡ overwritten (rootsOf (now (numbers .entry))) (now (roots .entry)) ⌝ }
 {
     let mut i: usize = 0;
     while i < numbers.len() {

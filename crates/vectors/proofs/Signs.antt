@@ -10,7 +10,7 @@ use lib.Signed.{ltZ, nonNeg}
 use mir.Syntax.{w64}
 use mir.Val.{Fits, SFits, toZ, ofZ}
 use mir.Facts.{toZ-ofZ}
-use Rattle.lookup.proofs.Signs.{negative-mag}
+use Rattle.cell.proofs.Signs.{negative-mag}
 
 -- a signed local
 abbrev pub held : ℤ → ℤ

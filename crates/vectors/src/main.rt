@@ -7,7 +7,6 @@
 //   1 byte: how many questions follow the body.
 // A lent map is the count of speeds and the count of torques, 8 bytes each, the 32 speeds and 64 torques of 2 bytes, and the lent entries of 4 bytes.
 use component::Component;
-use component::sensor::Sensor;
 use grid::Grid;
 use grid::SpeedAxis;
 use grid::TorqueAxis;
@@ -16,7 +15,9 @@ use libc::STDOUT_FILENO;
 use listing::ListingAnswer;
 use lookup::LossAnswer;
 use lookup::NearestAnswer;
+use refusal::Answer;
 use refusal::Refusal;
+use sensor::Sensor;
 
 // No input has more cases.
 const MOST_CASES: u64 = 1_000_000_000;
@@ -80,19 +81,31 @@ fn write_refusal(x: Refusal) {
     end_line();
 }
 
-fn write_component(c: Component) {
-    let speeds = c.grid.speeds;
-    let torques = c.grid.torques;
-    write_number(b"kind ", c.kind as u64);
-    write_number(b" line ", c.line as u64);
-    write_number(b" ratio ", c.ratio as u64);
+fn write_axle(kind: u16, line: u16, ratio: u16) {
+    write_number(b"kind ", wide(kind));
+    write_number(b" line ", wide(line));
+    write_number(b" ratio ", wide(ratio));
+}
+
+fn write_axes(grid: Grid) {
+    let speeds = grid.speeds;
+    let torques = grid.torques;
     write_numbers(b" speeds", &speeds.numbers, speeds.count);
     write_numbers(b" torques", &torques.numbers, torques.count);
+}
+
+fn write_measured(input: Sensor, output: Sensor, start: usize, end: usize) {
+    write_sensor(b" input", input);
+    write_sensor(b" output", output);
+    write_number(b" rows ", start as u64);
+    write_number(b" to ", end as u64);
+}
+
+fn write_component(c: Component) {
+    write_axle(c.kind, c.line, c.ratio);
+    write_axes(c.grid);
     if c.kind == 2 {
-        write_sensor(b" input", c.input);
-        write_sensor(b" output", c.output);
-        write_number(b" rows ", c.rows.start as u64);
-        write_number(b" to ", c.rows.end as u64);
+        write_measured(c.input, c.output, c.rows.start, c.rows.end);
     }
     end_line();
 }
@@ -101,8 +114,8 @@ fn write_reading(data: &[u8]) {
     let reading = component::read(data);
     let answer = reading.answer;
     match answer {
-        component::Answer::Accepted => write_component(reading.component),
-        component::Answer::Refused(x) => write_refusal(x),
+        Answer::Accepted => write_component(reading.component),
+        Answer::Refused(x) => write_refusal(x),
     }
 }
 
@@ -162,14 +175,6 @@ fn write_nearest(answer: NearestAnswer) {
     }
 }
 
-fn pair(a: u8, b: u8) -> u16 {
-    (a as u16) * 256 + (b as u16)
-}
-
-fn four(a: u8, b: u8, c: u8, d: u8) -> u32 {
-    (((a as u32) * 256 + (b as u32)) * 256 + (c as u32)) * 256 + (d as u32)
-}
-
 // The number of four bytes from a place on; 0 where there are fewer.
 fn number_at(bytes: &[u8], at: usize) -> u32 {
     if bytes.len() < 4 {
@@ -178,7 +183,7 @@ fn number_at(bytes: &[u8], at: usize) -> u32 {
     if bytes.len() - 4 < at {
         return 0;
     }
-    four(bytes[at], bytes[at + 1], bytes[at + 2], bytes[at + 3])
+    fields::four(bytes[at], bytes[at + 1], bytes[at + 2], bytes[at + 3])
 }
 
 // The number of eight bytes, given as two of four: any usize.
@@ -193,7 +198,7 @@ fn decode_numbers(bytes: &[u8], numbers: &mut [u16]) {
         if bytes.len() / 2 <= i {
             return;
         }
-        numbers[i] = pair(bytes[2 * i], bytes[2 * i + 1]);
+        numbers[i] = fields::pair(bytes[2 * i], bytes[2 * i + 1]);
         i += 1;
     }
 }
@@ -315,11 +320,11 @@ fn run_build(
     let grid = built.grid;
     let answer = built.answer;
     match answer {
-        map::Answer::Refused(x) => {
+        Answer::Refused(x) => {
             write_refusal(x);
             write_kept(b"entries", entries_kept(entries, 0));
         }
-        map::Answer::Accepted => {
+        Answer::Accepted => {
             write_kept(
                 b"entries",
                 entries_kept(entries, entry_count(grid.speeds.count, grid.torques.count)),
@@ -406,10 +411,10 @@ fn run_case(number: u64, body: &mut [u8], entries: &mut [u32], text: &mut [u8]) 
     }
     let head = Head {
         letter: start[0],
-        entries: pair(start[1], start[2]) as usize,
-        room: four(start[3], start[4], start[5], start[6]) as usize,
-        length: four(start[7], start[8], start[9], start[10]) as usize,
-        questions: pair(0, start[11]) as usize,
+        entries: fields::pair(start[1], start[2]) as usize,
+        room: fields::four(start[3], start[4], start[5], start[6]) as usize,
+        length: fields::four(start[7], start[8], start[9], start[10]) as usize,
+        questions: fields::pair(0, start[11]) as usize,
     };
     write_number(b"case ", number);
     end_line();

@@ -16,9 +16,9 @@ use Rattle.loss.specs.Standard.{lineOf, standardLoss, standardEntry}
 use Rattle.loss.specs.Exact.{Cut, cut, exactStandard}
 use Rattle.loss.proofs.Cuts.{square-not-negative}
 use Rattle.loss.proofs.Accuracy.{standard-at-or-below, standard-at-or-above, standard-entry-accurate}
-use Rattle.lookup.specs.Cell.{Point, Cell, Has, Side, lower, upper, Corners, share, weight, sum, index, corners}
-use Rattle.lookup.proofs.Axes.{Rising, Axes}
-use Rattle.accuracy.specs.Claim.{EntriesAccurate, exactCorner, ChosenBelow, ChosenAbove, entrySum, Limits}
+use Rattle.cell.specs.Cell.{Point, Cell, Has, Side, lower, upper, Corners, share, weight, sum, index, corners}
+use Rattle.lookup.proofs.Axes.{Rising, RisingAxes}
+use Rattle.accuracy.specs.Claim.{EntriesAccurate, exactCorner, ChosenBelow, ChosenAbove, entrySum, Held, figuresOf}
 use Rattle.accuracy.proofs.Limits.{limits}
 
 -- ---- the maps
@@ -69,7 +69,7 @@ fromZero = 0 ∷ 1000 ∷ []
 abbrev inside : Point
 inside = record { speed = 1500; torque = 25000 }
 
-inside-rules : Axes speeds fromZero
+inside-rules : RisingAxes speeds fromZero
 inside-rules = record { speeds = rising-pair 100 200 (omega arith); torques = rising-pair 0 1000 (omega arith); step = omega arith }
 
 inside-has : Has speeds fromZero inside cell
@@ -83,7 +83,7 @@ fromThousand = 1000 ∷ 2000 ∷ []
 abbrev under : Point
 under = record { speed = 1000; torque = 0 }
 
-under-rules : Axes speeds fromThousand
+under-rules : RisingAxes speeds fromThousand
 under-rules = record { speeds = rising-pair 100 200 (omega arith); torques = rising-pair 1000 2000 (omega arith); step = omega arith }
 
 under-has : Has speeds fromThousand under cell
@@ -127,22 +127,22 @@ under-rounds = record { not-below = le-by-compare _ _ tt; near = le-by-compare _
 
 -- ---- their limits against the exact losses
 
-inside-limits : Limits 1 speeds fromZero (entry fromZero) (exact fromZero) inside cell (pos 13511)
+inside-limits : Held (figuresOf 1) speeds fromZero (entry fromZero) (exact fromZero) inside cell (pos 13511)
 inside-limits = limits (entry fromZero) inside-rules (accurate fromZero) inside-has inside-rounds
 
-under-limits : Limits 1 speeds fromThousand (entry fromThousand) (exact fromThousand) under cell (pos 13000)
+under-limits : Held (figuresOf 1) speeds fromThousand (entry fromThousand) (exact fromThousand) under cell (pos 13000)
 under-limits = limits (entry fromThousand) under-rules (accurate fromThousand) under-has under-rounds
 
 pub inside-worked : (sum speeds fromZero inside cell (losses fromZero) ≼ signed (pos 13511)) × (signed (pos 13511) ≺ sum speeds fromZero inside cell (losses fromZero) ⊕ whole 2)
 inside-worked = (
-  inside-limits .low (omega arith) (losses fromZero) (losses-below fromZero inside),
-  inside-limits .high (omega arith) (losses fromZero) (losses-above fromZero inside),
+  inside-limits .never-below (omega arith) (losses fromZero) (losses-below fromZero inside),
+  inside-limits .not-far-above (omega arith) (losses fromZero) (losses-above fromZero inside),
 )
 
 pub under-worked : (sum speeds fromThousand under cell (losses fromThousand) ≺ signed (pos 13000) ⊕ whole 1) × (signed (pos 13000) ≺ sum speeds fromThousand under cell (losses fromThousand) ⊕ whole 3)
 under-worked = (
-  under-limits .low-below (omega arith) (losses fromThousand) (losses-below fromThousand under),
-  under-limits .high-below (omega arith) (losses fromThousand) (losses-above fromThousand under),
+  under-limits .not-far-below-first (omega arith) (losses fromThousand) (losses-below fromThousand under),
+  under-limits .not-far-above-first (omega arith) (losses fromThousand) (losses-above fromThousand under),
 )
 
 -- ---- a choice lies anywhere on its side: at 0 Nm a hundredth below the exact loss where the weight is 2, a hundredth above it where it is minus 1, and 0 where it is 0
@@ -235,6 +235,6 @@ above-chosen = record { positive = positive; negative = negative }
 -- and the limits hold against them
 pub chosen-worked : (sum speeds fromThousand under cell belowChoice ≺ signed (pos 13000) ⊕ whole 1) × (signed (pos 13000) ≺ sum speeds fromThousand under cell aboveChoice ⊕ whole 3)
 chosen-worked = (
-  under-limits .low-below (omega arith) belowChoice below-chosen,
-  under-limits .high-below (omega arith) aboveChoice above-chosen,
+  under-limits .not-far-below-first (omega arith) belowChoice below-chosen,
+  under-limits .not-far-above-first (omega arith) aboveChoice above-chosen,
 )

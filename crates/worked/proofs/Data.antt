@@ -16,18 +16,19 @@ use Rattle.grid.specs.Lists.{tabulate, joined}
 use Rattle.grid.specs.Every.{every}
 use Rattle.grid.specs.Parts.{gridOf}
 use Rattle.grid.proofs.Every.{every-at}
-use Rattle.component.specs.Bytes.{pairs}
-use Rattle.component.specs.Field.{head, field, number, axis}
-use Rattle.component.specs.Sensor.{sensorNumber, sensorNumbers, sensor}
+use Rattle.fields.specs.Bytes.{pairs}
+use Rattle.fields.specs.Field.{head, field, number, axis}
+use Rattle.fields.specs.Sensor.{sensor}
+use Rattle.sensor.specs.Sensor.{sensorNumberCheck, sensorCheck}
 use Rattle.component.specs.Component.{component, axleFields, axesFields, kindFields, measuredFields}
 use Rattle.layout.specs.Rules.{AreBytes}
 use Rattle.loss.specs.Rounding.{roundUp, partAbove, underZero}
 use Rattle.loss.specs.Measured.{grainsUp, temperatureOnSensitivity, temperatureOnZero, calibration, parasiticLoads, sensorUncertainty, sensorSteps, scaledUncertainty, readingUncertainty, lossUncertainty, measuredLoss, lossIsUnderZero, allowance, entryOf, readings, rowUncertainty, measuredEntry}
-use Rattle.map.specs.Rows.{rowAt, nearAxis, rowCheck}
-use Rattle.map.specs.Build.{LossMap, entryOfKind, entry, checkOfKind, check, speedCheck, rowsCheck, speedEntries, entries, mapOf, build}
+use Rattle.rows.specs.Rows.{rowAt, nearAxis, rowCheck}
+use Rattle.map.specs.Build.{entryOfKind, entry, checkOfKind, check, speedCheck, rowsCheck, speedEntries, entries, mapOf, build}
 use Rattle.map.specs.Answers.{Builds}
 use Rattle.map.specs.declared.Built.{Built}
-use Rattle.map.specs.declared.Answer.the-variants.{Accepted}
+use Rattle.refusal.specs.declared.Answer.the-variants.{Accepted}
 use Rattle.accuracy.specs.Demand.{Accurate}
 use Rattle.accuracy.proofs.Demand.{demand3}
 use Rattle.worked.specs.Data.{standardData, measuredData, refusedData}
@@ -64,7 +65,7 @@ standard-accurate = accurate standardData 100 200 0 1000 13000 15041 13000 15041
 
 -- ---- kind 2: 29.00 Nm at 1,000 Nm, and 300.00 Nm at 3,000 Nm
 pub measured-built : MapIs measuredData 100 200 1000 3000 2900 30000 2900 30000
-unfolding build mapOf entries speedEntries tabulate joined rowsCheck speedCheck check checkOfKind entry entryOfKind component axleFields axesFields kindFields measuredFields head field number axis sensor sensorNumber sensorNumbers pairs within rises axisNumber axisNumbers firstStep firstRefusal rowAt rowCheck nearAxis measuredEntry entryOf rowUncertainty readings readingUncertainty scaledUncertainty lossUncertainty sensorSteps sensorUncertainty grainsUp temperatureOnSensitivity temperatureOnZero calibration parasiticLoads measuredLoss lossIsUnderZero allowance roundUp partAbove underZero larger _less_over_ _over_ whole _⊕_ _⊖_ _⊗_ quotientUp rootUp
+unfolding build mapOf entries speedEntries tabulate joined rowsCheck speedCheck check checkOfKind entry entryOfKind component axleFields axesFields kindFields measuredFields head field number axis sensor sensorNumberCheck sensorCheck pairs within rises axisNumber axisNumbers firstStep firstRefusal rowAt rowCheck nearAxis measuredEntry entryOf rowUncertainty readings readingUncertainty scaledUncertainty lossUncertainty sensorSteps sensorUncertainty grainsUp temperatureOnSensitivity temperatureOnZero calibration parasiticLoads measuredLoss lossIsUnderZero allowance roundUp partAbove underZero larger _less_over_ _over_ whole _⊕_ _⊖_ _⊗_ quotientUp rootUp
 measured-built = refl
 
 pub measured-accurate : Accurate measuredData (gridOf (100 ∷ 200 ∷ []) 2 (1000 ∷ 3000 ∷ []) 2) (2900 ∷ 30000 ∷ 2900 ∷ 30000 ∷ [])
@@ -73,5 +74,5 @@ measured-accurate = accurate measuredData 100 200 1000 3000 2900 30000 2900 3000
 
 -- and one whose second row, at place 80, has a loss under zero
 pub refused-at-row : build refusedData 4 ≡ refuse 9 80
-unfolding build mapOf rowsCheck speedCheck check checkOfKind component axleFields axesFields kindFields measuredFields head field number axis sensor sensorNumber sensorNumbers pairs within rises axisNumber axisNumbers firstStep firstRefusal rowAt rowCheck nearAxis measuredEntry entryOf rowUncertainty readings readingUncertainty scaledUncertainty lossUncertainty sensorSteps sensorUncertainty grainsUp temperatureOnSensitivity temperatureOnZero calibration parasiticLoads measuredLoss lossIsUnderZero allowance roundUp partAbove underZero larger _less_over_ _over_ whole _⊕_ _⊖_ _⊗_ quotientUp rootUp
+unfolding build mapOf rowsCheck speedCheck check checkOfKind component axleFields axesFields kindFields measuredFields head field number axis sensor sensorNumberCheck sensorCheck pairs within rises axisNumber axisNumbers firstStep firstRefusal rowAt rowCheck nearAxis measuredEntry entryOf rowUncertainty readings readingUncertainty scaledUncertainty lossUncertainty sensorSteps sensorUncertainty grainsUp temperatureOnSensitivity temperatureOnZero calibration parasiticLoads measuredLoss lossIsUnderZero allowance roundUp partAbove underZero larger _less_over_ _over_ whole _⊕_ _⊖_ _⊗_ quotientUp rootUp
 refused-at-row = refl

@@ -1,33 +1,21 @@
 -- Document 01, "Reckoned by hand": every line marked for the proved set, as what is computed beside what the paper has.
 use Prim.Native.Nat.{ℕ}
-use mathlib.Core.Path.{_≡_, refl}
+use mathlib.Core.Path.{_≡_}
 use mathlib.Core.List.{List, [], _∷_}
 use lib.IntN.{ℤ, pos}
-use Rattle.arith.specs.Quotient.{quotientUp, quotientDown}
-use Rattle.arith.specs.Root.{rootUp}
-use Rattle.arith.specs.Fraction.{_less_over_, _over_, whole, _⊕_, _⊖_, _⊗_, larger}
-use Rattle.refusal.specs.Outcome.{Outcome, accepted, refuse, firstRefusal}
-use Rattle.grid.specs.Every.{every}
-use Rattle.grid.specs.Lists.{tabulate, joined}
-use Rattle.grid.specs.Axis.{within, rises, axisNumber, axisNumbers, firstStep, validNumbers}
-use Rattle.grid.specs.Map.{validSpeeds, validTorques, validGrid, validEntries, validMap}
+use Rattle.refusal.specs.Outcome.{Outcome, accepted, refuse}
 use Rattle.grid.specs.Parts.{gridOf}
 use Rattle.grid.specs.declared.Grid.{Grid}
-use Rattle.component.specs.Bytes.{pairs}
-use Rattle.component.specs.Field.{head, field, number, axis}
-use Rattle.component.specs.Component.{component, axleFields, axesFields, kindFields, measuredFields}
-use Rattle.component.specs.declared.sensor.Sensor.{Sensor}
-use Rattle.loss.specs.Rounding.{roundUp, partAbove, underZero}
-use Rattle.loss.specs.Standard.{standardLoss, standardEntry}
-use Rattle.loss.specs.Measured.{grainsUp, temperatureOnSensitivity, temperatureOnZero, calibration, parasiticLoads, sensorUncertainty, sensorSteps, scaledUncertainty, readingUncertainty, lossUncertainty, measuredLoss, lossIsUnderZero, allowance, entryOf, readings, rowUncertainty, measuredEntry}
-use Rattle.map.specs.Rows.{Bench, Torques, rowOf, nearAxis, rowCheck}
-use Rattle.map.specs.Build.{LossMap, entry, entryOfKind, check, checkOfKind, speedCheck, rowsCheck, speedEntries, entries, mapOf, build}
-use Rattle.listing.specs.Bytes.{bytes}
-use Rattle.listing.specs.Listing.{digitCountBy, digitCount, decimal, hundredths, header, line, row, rows, listing, refusalLine}
-use Rattle.report.specs.Report.{reportOf, report}
-use Rattle.lookup.specs.Cell.{Point, share, weight, sum, index, corners}
-use Rattle.lookup.specs.Loss.{lastUpTo, neighbour, cellOf, ceiling, lossAt, lossAnswer}
-use Rattle.lookup.specs.Nearest.{GridPoint, nearestIndex, nearestNumber, nearestAnswer}
+use Rattle.sensor.specs.declared.Sensor.{Sensor}
+use Rattle.loss.specs.Standard.{standardEntry}
+use Rattle.loss.specs.Measured.{calibration, sensorUncertainty, sensorSteps, rowUncertainty, measuredEntry}
+use Rattle.rows.specs.Rows.{Bench, Torques, rowOf, rowCheck}
+use Rattle.map.specs.Build.{LossMap, entries, build}
+use Rattle.buffer.specs.Bytes.{bytes}
+use Rattle.report.specs.Report.{report}
+use Rattle.cell.specs.Cell.{Point, share}
+use Rattle.lookup.specs.Loss.{lossAnswer}
+use Rattle.lookup.specs.Nearest.{GridPoint, nearestAnswer}
 use Rattle.worked.specs.Data.{standardData}
 
 -- what is computed, and what document 01 has

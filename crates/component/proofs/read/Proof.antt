@@ -1,5 +1,4 @@
 -- `component::read` meets its contract. Assumes nothing.
-use mathlib.Core.Path.{refl}
 use native.Mathlib.Omega.{arith}
 use Rattle.component.proofs.Readings.{points, points-most, axle-refused, axes-refused, kind-refused, bytes-left, all-read, kind-said, refused-reading}
 use borrow.Author.Needs.{needs}
@@ -16,7 +15,9 @@ refused-requires : tie.Need-refused-requires
 refused-requires c κs = search needs
 
 returns : tie.Need-returns
-returns c = refused-reading _ _ _ (c .refused .ensures) (axle-refused _ _ (rw (c .before .before .x .given .1) at (c .before .before .before .before .read-axle .ensures)))
+returns c =
+    let axle-call = c .before .before .before .before in
+    refused-reading _ _ _ (c .refused .ensures) (axle-refused _ _ (rw (c .before .before .x .given .1) at (axle-call .read-axle .ensures)))
 
 enum-known-axle : tie.Need-enum-known-axle
 enum-known-axle c = search needs
@@ -31,16 +32,24 @@ refused-requires-2 : tie.Need-refused-requires-2
 refused-requires-2 c κs = search needs
 
 returns-2 : tie.Need-returns-2
-returns-2 c = refused-reading _ _ _ (c .refused2 .ensures) (axes-refused _ _ (rw (c .before .before .before .before .before .before .axle .given .1) at (c .before .before .before .before .before .before .before .before .read-axle .ensures)) _ (rw (c .before .before .answer .given .1) at (c .before .before .before .before .read-axes .ensures .0)))
+returns-2 c =
+    let axes-call = c .before .before .before .before in
+    let axle-read = axes-call .before .before in
+    let axle-call = axle-read .before .before in
+    refused-reading _ _ _ (c .refused2 .ensures) (axes-refused _ _ (rw (axle-read .axle .given .1) at (axle-call .read-axle .ensures)) _ (rw (c .before .before .answer .given .1) at (axes-call .read-axes .ensures .0)))
 
 enum-known-answer-2 : tie.Need-enum-known-answer-2
 enum-known-answer-2 c = search needs
 
 mul-points : tie.Need-mul-points
-mul-points c = omega (arith, points-most _ (c .before .before .before .before .before .read-axes .ensures .1))
+mul-points c =
+    let axes-call = c .before .before .before .before .before in
+    omega (arith, points-most _ (axes-call .read-axes .ensures .1))
 
 read-kind-requires : tie.Need-read-kind-requires
-read-kind-requires c κs = points-most _ (c .before .before .before .before .before .read-axes .ensures .1)
+read-kind-requires c κs =
+    let axes-call = c .before .before .before .before .before in
+    points-most _ (axes-call .read-axes .ensures .1)
 
 enum-known-x-2 : tie.Need-enum-known-x-2
 enum-known-x-2 c = search needs
@@ -49,7 +58,13 @@ refused-requires-3 : tie.Need-refused-requires-3
 refused-requires-3 c κs = search needs
 
 returns-3 : tie.Need-returns-3
-returns-3 c = refused-reading _ _ _ (c .refused3 .ensures) (kind-refused _ _ (rw (c .before .before .before .before .before .before .before .before .before .before .before .before .axle .given .1) at (c .before .before .before .before .before .before .before .before .before .before .before .before .before .before .read-axle .ensures)) _ (rw (c .before .before .before .before .before .before .before .before .answer2 .given .1) at (c .before .before .before .before .before .before .before .before .before .before .read-axes .ensures .0)) _ (points _ (c .before .before .before .before .before .before .before .before .before .before .read-axes .ensures .1)) _ (rw (c .before .before .x2 .given .1) at (c .before .before .before .before .read-kind .ensures .0)))
+returns-3 c =
+    let kind-call = c .before .before .before .before in
+    let axes-read = kind-call .before .before .before .before in
+    let axes-call = axes-read .before .before in
+    let axle-read = axes-call .before .before in
+    let axle-call = axle-read .before .before in
+    refused-reading _ _ _ (c .refused3 .ensures) (kind-refused _ _ (rw (axle-read .axle .given .1) at (axle-call .read-axle .ensures)) _ (rw (axes-read .answer2 .given .1) at (axes-call .read-axes .ensures .0)) _ (points _ (axes-call .read-axes .ensures .1)) _ (rw (c .before .before .x2 .given .1) at (kind-call .read-kind .ensures .0)))
 
 enum-known-measured : tie.Need-enum-known-measured
 enum-known-measured c = search needs
@@ -58,7 +73,13 @@ refused-requires-4 : tie.Need-refused-requires-4
 refused-requires-4 c κs = search needs
 
 returns-4 : tie.Need-returns-4
-returns-4 c = refused-reading _ _ _ (c .refused4 .ensures) (bytes-left _ _ (rw (c .before .before .before .before .before .before .before .before .before .before .before .before .before .axle .given .1) at (c .before .before .before .before .before .before .before .before .before .before .before .before .before .before .before .read-axle .ensures)) _ (rw (c .before .before .before .before .before .before .before .before .before .answer2 .given .1) at (c .before .before .before .before .before .before .before .before .before .before .before .read-axes .ensures .0)) _ (points _ (c .before .before .before .before .before .before .before .before .before .before .before .read-axes .ensures .1)) _ (rw (c .before .before .before .measured .given .1) at (c .before .before .before .before .before .read-kind .ensures .0)) (c .before .if1 .taken))
+returns-4 c =
+    let kind-call = c .before .before .before .before .before in
+    let axes-read = kind-call .before .before .before .before in
+    let axes-call = axes-read .before .before in
+    let axle-read = axes-call .before .before in
+    let axle-call = axle-read .before .before in
+    refused-reading _ _ _ (c .refused4 .ensures) (bytes-left _ _ (rw (axle-read .axle .given .1) at (axle-call .read-axle .ensures)) _ (rw (axes-read .answer2 .given .1) at (axes-call .read-axes .ensures .0)) _ (points _ (axes-call .read-axes .ensures .1)) _ (rw (c .before .before .before .measured .given .1) at (kind-call .read-kind .ensures .0)) (c .before .if1 .taken))
 
 accepted-requires : tie.Need-accepted-requires
 accepted-requires c κs = search needs

@@ -5,7 +5,7 @@ use Rattle.component.proofs.Readings.{no-counts}
 use mathlib.Core.Path.{sym, _∙_}
 use borrow.Author.Tests.{not-true, not-false}
 use Rattle.component.specs.Component.{axesFields}
-use Rattle.component.proofs.Bodies.{first-step}
+use Rattle.fields.proofs.Bodies.{first-step}
 use borrow.Author.Needs.{needs}
 use Rattle.component.proofs.read_axes.Statement.{statement}
 use Rattle.component.proofs.read_axes.Tie as tie
@@ -24,7 +24,9 @@ refused-axes-requires c κs = search needs
 
 returns : tie.Need-returns
 unfolding axesFields
-returns c = (rw (c .refused-axes .ensures .0, ← (rw (c .before .before .x .given .1) at (c .before .before .before .before .before .axis .ensures .0))), no-counts _ (c .refused-axes .ensures .1) (c .refused-axes .ensures .2))
+returns c =
+    let speeds-call = c .before .before .before .before .before in
+    (rw (c .refused-axes .ensures .0, ← (rw (c .before .before .x .given .1) at (speeds-call .axis .ensures .0))), no-counts _ (c .refused-axes .ensures .1) (c .refused-axes .ensures .2))
 
 enum-known-field : tie.Need-enum-known-field
 enum-known-field c = search needs
@@ -43,7 +45,11 @@ refused-axes-requires-2 c κs = search needs
 
 returns-2 : tie.Need-returns-2
 unfolding axesFields
-returns-2 c = (rw (c .refused-axes2 .ensures .0, ← (rw (c .before .before .before .before .before .before .before .before .field .given .1) at (c .before .before .before .before .before .before .before .before .before .before .before .axis .ensures .0)), ← (rw (c .before .before .x2 .given .1) at (c .before .before .before .before .before .axis2 .ensures .0))), no-counts _ (c .refused-axes2 .ensures .1) (c .refused-axes2 .ensures .2))
+returns-2 c =
+    let torques-call = c .before .before .before .before .before in
+    let speeds-read = torques-call .before .before .before in
+    let speeds-call = speeds-read .before .before .before in
+    (rw (c .refused-axes2 .ensures .0, ← (rw (speeds-read .field .given .1) at (speeds-call .axis .ensures .0)), ← (rw (c .before .before .x2 .given .1) at (torques-call .axis2 .ensures .0))), no-counts _ (c .refused-axes2 .ensures .1) (c .refused-axes2 .ensures .2))
 
 enum-known-field-2 : tie.Need-enum-known-field-2
 enum-known-field-2 c = search needs
@@ -62,19 +68,35 @@ refused-axes-requires-3 c κs = search needs
 
 returns-3 : tie.Need-returns-3
 unfolding axesFields
-returns-3 c = (rw (c .refused-axes3 .ensures .0, ← (rw (c .before .before .before .before .before .before .before .before .before .before .field .given .1) at (c .before .before .before .before .before .before .before .before .before .before .before .before .before .axis .ensures .0)), ← (rw (c .before .before .before .before .field2 .given .1) at (c .before .before .before .before .before .before .before .axis2 .ensures .0)), first-step _ _ _ ((rw (c .before .before .before .before .field2 .given .1) at (c .before .before .before .before .before .before .before .axis2 .ensures .1)) .0) (sym (c .before .before .first-step-holds .ensures) ∙ not-true _ (c .before .if1 .taken))), no-counts _ (c .refused-axes3 .ensures .1) (c .refused-axes3 .ensures .2))
+returns-3 c =
+    let torques-read = c .before .before .before .before in
+    let torques-call = torques-read .before .before .before in
+    let speeds-read = torques-call .before .before .before in
+    let speeds-call = speeds-read .before .before .before in
+    let speeds-are = rw (speeds-read .field .given .1) at (speeds-call .axis .ensures .0) in
+    let torques-are = rw (torques-read .field2 .given .1) at (torques-call .axis2 .ensures .0) in
+    let torques-count = rw (torques-read .field2 .given .1) at (torques-call .axis2 .ensures .1) in
+    (rw (c .refused-axes3 .ensures .0, ← speeds-are, ← torques-are, first-step _ _ _ (torques-count .0) (sym (c .before .before .first-step-holds .ensures) ∙ not-true _ (c .before .if1 .taken))), no-counts _ (c .refused-axes3 .ensures .1) (c .refused-axes3 .ensures .2))
 
 returns-4 : tie.Need-returns-4
 unfolding axesFields
-returns-4 c = (
-  rw (← (rw (c .before .before .before .before .before .before .before .before .before .before .field .given .1) at (c .before .before .before .before .before .before .before .before .before .before .before .before .before .axis .ensures .0)), ← (rw (c .before .before .before .before .field2 .given .1) at (c .before .before .before .before .before .before .before .axis2 .ensures .0)), first-step _ _ _ ((rw (c .before .before .before .before .field2 .given .1) at (c .before .before .before .before .before .before .before .axis2 .ensures .1)) .0) (sym (c .before .before .first-step-holds .ensures) ∙ not-false _ (c .before .if1 .left))),
-  record {
-    speeds = (rw (c .before .before .before .before .before .before .before .before .before .before .field .given .1) at (c .before .before .before .before .before .before .before .before .before .before .before .before .before .axis .ensures .1)) .1;
-    torques = (rw (c .before .before .before .before .field2 .given .1) at (c .before .before .before .before .before .before .before .axis2 .ensures .1)) .1;
-    speeds-length = length-take-le _ _ (omega (arith, c .before .before .before .before .before .before .before .before .before .before .before .before .before .axis .kept, (rw (c .before .before .before .before .before .before .before .before .before .before .field .given .1) at (c .before .before .before .before .before .before .before .before .before .before .before .before .before .axis .ensures .1)) .1));
-    torques-length = length-take-le _ _ (omega (arith, c .before .before .before .before .before .before .before .axis2 .kept, (rw (c .before .before .before .before .field2 .given .1) at (c .before .before .before .before .before .before .before .axis2 .ensures .1)) .1));
-  },
-)
+returns-4 c =
+    let torques-read = c .before .before .before .before in
+    let torques-call = torques-read .before .before .before in
+    let speeds-read = torques-call .before .before .before in
+    let speeds-call = speeds-read .before .before .before in
+    let speeds-are = rw (speeds-read .field .given .1) at (speeds-call .axis .ensures .0) in
+    let torques-are = rw (torques-read .field2 .given .1) at (torques-call .axis2 .ensures .0) in
+    let speeds-count = rw (speeds-read .field .given .1) at (speeds-call .axis .ensures .1) in
+    let torques-count = rw (torques-read .field2 .given .1) at (torques-call .axis2 .ensures .1) in (
+      rw (← speeds-are, ← torques-are, first-step _ _ _ (torques-count .0) (sym (c .before .before .first-step-holds .ensures) ∙ not-false _ (c .before .if1 .left))),
+      record {
+        speeds = speeds-count .1;
+        torques = torques-count .1;
+        speeds-length = length-take-le _ _ (omega (arith, speeds-call .axis .kept, speeds-count .1));
+        torques-length = length-take-le _ _ (omega (arith, torques-call .axis2 .kept, torques-count .1));
+      },
+    )
 
 pub read-axes-spec : {M : Type 1} → statement M
 read-axes-spec =

@@ -1,6 +1,6 @@
 -- `component::read_measured` meets its contract. Assumes nothing.
 use Rattle.component.specs.Component.{measuredFields, rows}
-use Rattle.component.proofs.Heads.{inside, head-refused, body-accepted}
+use Rattle.fields.proofs.Heads.{inside, head-refused, body-accepted}
 use mathlib.Core.Path.{refl}
 use borrow.Author.Needs.{needs}
 use Rattle.component.proofs.read_measured.Statement.{statement}
@@ -27,7 +27,10 @@ enum-known-x-2 c = search needs
 
 returns-2 : tie.Need-returns-2
 unfolding measuredFields
-returns-2 c = (rw (← (rw (c .before .before .before .before .before .field .given .1) at (c .before .before .before .before .before .before .before .sensor .ensures)), ← (rw (c .before .x2 .given .1) at (c .before .before .before .sensor2 .ensures))), tt)
+returns-2 c =
+    let input-read = c .before .before .before .before .before in
+    let input-call = input-read .before .before in
+    (rw (← (rw (input-read .field .given .1) at (input-call .sensor .ensures)), ← (rw (c .before .x2 .given .1) at (c .before .before .before .sensor2 .ensures))), tt)
 
 enum-known-field-2 : tie.Need-enum-known-field-2
 enum-known-field-2 c = search needs
@@ -46,14 +49,24 @@ enum-known-start c = search needs
 
 returns-3 : tie.Need-returns-3
 unfolding measuredFields
-returns-3 c = (rw (← (rw (c .before .before .before .before .before .before .before .before .before .field .given .1) at (c .before .before .before .before .before .before .before .before .before .before .before .sensor .ensures)), ← (rw (c .before .before .before .before .before .field2 .given .1) at (c .before .before .before .before .before .before .before .sensor2 .ensures)), ← head-refused _ _ _ _ rows _ (rw (c .before .x3 .given .1) at (c .before .before .before .field3 .ensures))), tt)
+returns-3 c =
+    let output-read = c .before .before .before .before .before in
+    let output-call = output-read .before .before in
+    let input-read = output-call .before .before in
+    let input-call = input-read .before .before in
+    (rw (← (rw (input-read .field .given .1) at (input-call .sensor .ensures)), ← (rw (output-read .field2 .given .1) at (output-call .sensor2 .ensures)), ← head-refused _ _ _ _ rows _ (rw (c .before .x3 .given .1) at (c .before .before .before .field3 .ensures))), tt)
 
 returns-4 : tie.Need-returns-4
 unfolding measuredFields
 returns-4 c =
-    let h = (rw (c .before .before .before .start .given .1) at (c .before .before .before .before .before .field3 .ensures)) in
+    let rows-call = c .before .before .before .before .before in
+    let output-read = rows-call .before .before in
+    let output-call = output-read .before .before in
+    let input-read = output-call .before .before in
+    let input-call = input-read .before .before in
+    let h = (rw (c .before .before .before .start .given .1) at (rows-call .field3 .ensures)) in
     let i = inside _ _ _ _ _ h in
-    (rw (← (rw (c .before .before .before .before .before .before .before .before .before .before .before .field .given .1) at (c .before .before .before .before .before .before .before .before .before .before .before .before .before .sensor .ensures)), ← (rw (c .before .before .before .before .before .before .before .field2 .given .1) at (c .before .before .before .before .before .before .before .before .before .sensor2 .ensures)), ← body-accepted _ _ _ _ rows _ h _ refl), (i .forward, i .ends))
+    (rw (← (rw (input-read .field .given .1) at (input-call .sensor .ensures)), ← (rw (output-read .field2 .given .1) at (output-call .sensor2 .ensures)), ← body-accepted _ _ _ _ rows _ h _ refl), (i .forward, i .ends))
 
 pub read-measured-spec : {M : Type 1} → statement M
 read-measured-spec =

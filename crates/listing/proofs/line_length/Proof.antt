@@ -1,7 +1,7 @@
 -- `listing::line_length` meets its contract. Assumes nothing.
 use native.Mathlib.Omega.{arith}
-use Rattle.listing.proofs.Lengths.{length-line, length-hundredths}
-use Rattle.listing.proofs.Digits.{length-decimal}
+use Rattle.listing.proofs.Lengths.{length-line}
+use Rattle.buffer.proofs.Digits.{length-hundredths, length-decimal}
 use borrow.Author.Needs.{needs}
 use Rattle.listing.proofs.line_length.Statement.{statement}
 use Rattle.listing.proofs.line_length.Tie as tie

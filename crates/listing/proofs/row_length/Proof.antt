@@ -7,7 +7,7 @@ use Prim.Native.Nat.{ℕ, _*_, _-_, _≤_}
 use lib.ListN.{length}
 use Rattle.listing.specs.Listing.{lineAt, row}
 use Rattle.grid.specs.Lists.{joined}
-use Rattle.listing.proofs.Places.{joined-grows}
+use Rattle.buffer.proofs.Places.{joined-grows}
 use borrow.Author.Needs.{needs}
 use Rattle.listing.proofs.row_length.Statement.{statement}
 use Rattle.listing.proofs.row_length.Tie as tie

@@ -7,23 +7,23 @@ use Prim.Native.Nat.{ℕ, _+_, _*_, _-_, _≤_}
 use native.Mathlib.Nat.{zero-mul, suc-mul, mul-le-mul}
 use native.Mathlib.Numerals.{add-one}
 use lib.ListN.{length}
-use Rattle.listing.specs.Listing.{rowAt, rows}
+use Rattle.listing.specs.Listing.{rowOfSpeed, rows}
 use Rattle.grid.specs.Lists.{joined}
 use Rattle.grid.proofs.Points.{row-within}
-use Rattle.listing.proofs.Places.{joined-grows}
+use Rattle.buffer.proofs.Places.{joined-grows}
 use borrow.Author.Needs.{needs}
 use Rattle.listing.proofs.rows_length.Statement.{statement}
 use Rattle.listing.proofs.rows_length.Tie as tie
 
 abbrev Inv-loop : tie.InvT-loop
-Inv-loop speeds speed-count torques torque-count entries total₀ first₀ i₀ total first i = (i ≤ speed-count) × (first ≡ i * torque-count) × (total ≤ 4224 * i) × (total ≡ length (joined (rowAt speeds torques torque-count entries) i))
+Inv-loop speeds speed-count torques torque-count entries total₀ first₀ i₀ total first i = (i ≤ speed-count) × (first ≡ i * torque-count) × (total ≤ 4224 * i) × (total ≡ length (joined (rowOfSpeed speeds torques torque-count entries) i))
 
 abbrev μ-loop : tie.MeasureT-loop
 μ-loop speeds speed-count torques torque-count entries total₀ first₀ i₀ total first i = speed-count - i
 
 -- the lines of speed i
 abbrev lines : tie.At-loop Inv-loop μ-loop → ℕ → List ℕ
-lines c = let args = c .before .before .args in rowAt (now (args .speeds)) (now (args .torques)) (args .torque-count) (now (args .entries))
+lines c = let args = c .before .before .args in rowOfSpeed (now (args .speeds)) (now (args .torques)) (args .torque-count) (now (args .entries))
 
 -- the entries of this speed lie within all entries
 within : (c : tie.In-loop Inv-loop μ-loop) →

@@ -3,7 +3,7 @@ use native.Mathlib.Omega.{arith}
 use lib.ListN.{length-append}
 use Rattle.listing.specs.Listing.{line}
 use Rattle.listing.proofs.Lengths.{length-line}
-use Rattle.listing.proofs.Places.{written-then}
+use Rattle.buffer.proofs.Places.{written-then}
 use borrow.Author.Needs.{needs}
 use Rattle.listing.proofs.write_line.Statement.{statement}
 use Rattle.listing.proofs.write_line.Tie as tie
@@ -44,18 +44,23 @@ same-length c = search needs
 returns : tie.Need-returns
 unfolding line
 returns c =
-    let start = c .before .before .before .before .before .before .before .before .before .before .before .before .before .before .before .before .before .before .before .before .before .before .before .before .before in
+    let loss-written = c .before .before .before .before .before .before in
+    let comma-written-2 = loss-written .before .before .before .before in
+    let torque-written = comma-written-2 .before .before .before .before in
+    let comma-written = torque-written .before .before .before .before in
+    let speed-written = comma-written .before .before .before .before in
+    let start = speed-written .before .before .before in
     let whole = length-line (start .args .speed) (start .args .torque) (start .args .loss) in
     written-then
     (written-then
     (written-then
     (written-then
-    (written-then (c .before .before .before .before .before .before .before .before .before .before .before .before .before .before .before .before .before .before .before .before .before .before .write-decimal .ensures) (c .before .before .before .before .before .before .before .before .before .before .before .before .before .before .before .before .before .before .write-byte .ensures) (omega (arith, start .pre)))
-    (c .before .before .before .before .before .before .before .before .before .before .before .before .before .before .write-decimal2 .ensures)
+    (written-then (speed-written .write-decimal .ensures) (comma-written .write-byte .ensures) (omega (arith, start .pre)))
+    (torque-written .write-decimal2 .ensures)
     (simp length-append (omega (arith, start .pre))))
-    (c .before .before .before .before .before .before .before .before .before .before .write-byte2 .ensures)
+    (comma-written-2 .write-byte2 .ensures)
     (simp length-append (omega (arith, start .pre))))
-    (c .before .before .before .before .before .before .write-hundredths .ensures)
+    (loss-written .write-hundredths .ensures)
     (simp length-append (omega (arith, start .pre))))
     (c .before .before .write-byte3 .ensures)
     (simp length-append (omega (arith, start .pre)))

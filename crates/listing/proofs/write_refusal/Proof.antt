@@ -4,19 +4,20 @@ use Prim.Native.Nat.{_+_, _≤_}
 use mathlib.Core.Path.{_≡_, refl, _∙_}
 use native.Mathlib.Nat.{zero-add}
 use lib.ListN.{length}
-use Rattle.refusal.specs.Outcome.{Told}
+use Rattle.refusal.specs.Outcome.{refusal}
 use Rattle.refusal.specs.Table.{told}
 use Rattle.listing.specs.Listing.{refusalLine}
-use Rattle.listing.proofs.Digits.{length-decimal}
+use Rattle.buffer.proofs.Digits.{length-decimal}
 use Rattle.listing.proofs.Lengths.{length-refusal-line}
-use Rattle.listing.proofs.Places.{placed-start}
+use Rattle.buffer.proofs.Places.{placed-start}
 use Rattle.listing.proofs.Fitted.{fitted-short, fitted-whole}
 use borrow.Author.Needs.{needs}
 use Rattle.listing.proofs.write_refusal.Statement.{statement}
 use Rattle.listing.proofs.write_refusal.Tie as tie
 
 -- the number and the place that are told
-told-by : (c : tie.After-digit-count2) → _≡_ {A = Told} (record { number = c .before .before .before .number .result; place = c .before .before .place .result }) (told (c .before .before .before .before .before .args .x))
+told-by : (c : tie.After-digit-count2) →
+    refusal (c .before .before .before .number .result) (c .before .before .place .result) ≡ told (c .before .before .before .before .before .args .x)
 told-by c = rw (c .before .before .before .number .ensures, c .before .before .place .ensures)
 
 -- the bytes that the line takes
@@ -24,7 +25,7 @@ needed : (c : tie.After-digit-count2) → 13 + c .before .digit-count .result + 
 needed c =
     let number = c .before .before .before .number .result in
     let place = c .before .before .place .result in
-    rw (← told-by c) (omega (arith, length-refusal-line (record { number = number; place = place }), length-decimal number, length-decimal place))
+    rw (← told-by c) (omega (arith, length-refusal-line (refusal number place), length-decimal number, length-decimal place))
 
 short : (c : tie.After-digit-count2) → length (refusalLine (told (c .before .before .before .before .before .args .x))) ≤ 53
 short c = omega (arith, needed c, c .before .digit-count .ensures, c .digit-count2 .ensures)

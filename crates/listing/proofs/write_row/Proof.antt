@@ -7,14 +7,14 @@ use Prim.Native.Nat.{ℕ, _+_, _-_, _≤_}
 use lib.ListN.{length}
 use Rattle.listing.specs.Listing.{lineAt, row}
 use Rattle.grid.specs.Lists.{joined}
-use Rattle.listing.specs.Placed.{Written}
-use Rattle.listing.proofs.Places.{joined-grows, joined-part, written-nothing, written-next}
+use Rattle.buffer.specs.Written.{TextWritten}
+use Rattle.buffer.proofs.Places.{joined-grows, joined-part, written-nothing, written-next}
 use borrow.Author.Needs.{needs}
 use Rattle.listing.proofs.write_row.Statement.{statement}
 use Rattle.listing.proofs.write_row.Tie as tie
 
 abbrev Inv-loop : tie.InvT-loop
-Inv-loop speed torques torque-count entries first text₀ at next₀ j₀ text next j = (j ≤ torque-count) × (length text ≡ length text₀) × Written (joined (lineAt speed torques entries first) j) text₀ at next text
+Inv-loop speed torques torque-count entries first text₀ at next₀ j₀ text next j = (j ≤ torque-count) × (length text ≡ length text₀) × TextWritten (joined (lineAt speed torques entries first) j) text₀ at next text
 
 abbrev μ-loop : tie.MeasureT-loop
 μ-loop speed torques torque-count entries first text₀ at next₀ j₀ text next j = torque-count - j

@@ -8,7 +8,7 @@ use lib.ListN.{length, length-append}
 use Rattle.grid.specs.Parts.{gridOf}
 use Rattle.listing.specs.Listing.{listing}
 use Rattle.listing.proofs.Lengths.{length-listing}
-use Rattle.listing.proofs.Places.{placed-start, written-then}
+use Rattle.buffer.proofs.Places.{placed-start, written-then}
 use Rattle.listing.proofs.Fitted.{fitted-short, fitted-whole}
 use borrow.Author.Needs.{needs}
 use Rattle.listing.proofs.write_valid.Statement.{statement}

@@ -39,12 +39,16 @@ returns-2 : tie.Need-returns-2
 returns-2 c = sym (parts.speed-below _ _ _ _ _ (valid (c .before .before .before)) _ _ (c .before .number .ensures .0) (c .if2 .taken))
 
 sub-number : tie.Need-sub-number
-sub-number c = omega (arith, facts (c .before .before .before .before) .axes .speeds .at-least)
+sub-number c =
+    let is-map = c .before .before .before .before in
+    omega (arith, facts is-map .axes .speeds .at-least)
 
 number-requires-2 : tie.Need-number-requires-2
 number-requires-2 c κs =
-    let f = facts (c .before .before .before .before) in
-    let a : c .before .before .before .before .before .before .before .args .speed-count - 1 < 32 = omega (arith, f .axes .speeds .at-most, f .axes .speeds .at-least) in
+    let is-map = c .before .before .before .before in
+    let start = is-map .before .before .before in
+    let f = facts is-map in
+    let a : start .args .speed-count - 1 < 32 = omega (arith, f .axes .speeds .at-most, f .axes .speeds .at-least) in
     search needs
 
 mul-if3 : tie.Need-mul-if3
@@ -52,15 +56,21 @@ mul-if3 c = search needs
 
 returns-3 : tie.Need-returns-3
 returns-3 c =
-    sym (parts.speed-above _ _ _ _ _ (valid (c .before .before .before .before .before .before)) _ _ (c .before .before .before .before .number .ensures .0) (c .before .before .before .if2 .left) _ (c .before .number2 .ensures .0) (c .if3 .taken))
+    let first-speed = c .before .before .before .before in
+    let is-map = first-speed .before .before in
+    sym (parts.speed-above _ _ _ _ _ (valid is-map) _ _ (first-speed .number .ensures .0) (c .before .before .before .if2 .left) _ (c .before .number2 .ensures .0) (c .if3 .taken))
 
 sub-number-2 : tie.Need-sub-number-2
-sub-number-2 c = omega (arith, facts (c .before .before .before .before .before .before .before) .axes .torques .at-least)
+sub-number-2 c =
+    let is-map = c .before .before .before .before .before .before .before in
+    omega (arith, facts is-map .axes .torques .at-least)
 
 number-requires-3 : tie.Need-number-requires-3
 number-requires-3 c κs =
-    let f = facts (c .before .before .before .before .before .before .before) in
-    let a : c .before .before .before .before .before .before .before .before .before .before .args .torque-count - 1 < 64 = omega (arith, f .axes .torques .at-most, f .axes .torques .at-least) in
+    let is-map = c .before .before .before .before .before .before .before in
+    let start = is-map .before .before .before in
+    let f = facts is-map in
+    let a : start .args .torque-count - 1 < 64 = omega (arith, f .axes .torques .at-most, f .axes .torques .at-least) in
     search needs
 
 mul-if4 : tie.Need-mul-if4
@@ -68,16 +78,29 @@ mul-if4 c = search needs
 
 returns-4 : tie.Need-returns-4
 returns-4 c =
-    sym (parts.torque-above _ _ _ _ _ (valid (c .before .before .before .before .before .before .before .before .before)) _ _ (c .before .before .before .before .before .before .before .number .ensures .0) (c .before .before .before .before .before .before .if2 .left) _ (c .before .before .before .before .number2 .ensures .0) (c .before .before .before .if3 .left) _ (c .before .number3 .ensures .0) (c .if4 .taken))
+    let last-speed = c .before .before .before .before in
+    let above-first = last-speed .before .before in
+    let first-speed = above-first .before in
+    let is-map = first-speed .before .before in
+    sym (parts.torque-above _ _ _ _ _ (valid is-map) _ _ (first-speed .number .ensures .0) (above-first .if2 .left) _ (last-speed .number2 .ensures .0) (c .before .before .before .if3 .left) _ (c .before .number3 .ensures .0) (c .if4 .taken))
 
 loss-within-requires : tie.Need-loss-within-requires
 loss-within-requires c κs =
-    (valid (c .before .before .before .before .before .before .before .before .before), parts.within _ _ _ _ _ (valid (c .before .before .before .before .before .before .before .before .before)) _ _ (c .before .before .before .before .before .before .before .number .ensures .0) (c .before .before .before .before .before .before .if2 .left) _ (c .before .before .before .before .number2 .ensures .0) (c .before .before .before .if3 .left) _ (c .before .number3 .ensures .0) (c .if4 .left))
+    let last-speed = c .before .before .before .before in
+    let above-first = last-speed .before .before in
+    let first-speed = above-first .before in
+    let is-map = first-speed .before .before in
+    (valid is-map, parts.within _ _ _ _ _ (valid is-map) _ _ (first-speed .number .ensures .0) (above-first .if2 .left) _ (last-speed .number2 .ensures .0) (c .before .before .before .if3 .left) _ (c .before .number3 .ensures .0) (c .if4 .left))
 
 returns-5 : tie.Need-returns-5
 returns-5 c =
-    let w = parts.within _ _ _ _ _ (valid (c .before .before .before .before .before .before .before .before .before .before)) _ _ (c .before .before .before .before .before .before .before .before .number .ensures .0) (c .before .before .before .before .before .before .before .if2 .left) _ (c .before .before .before .before .before .number2 .ensures .0) (c .before .before .before .before .if3 .left) _ (c .before .before .number3 .ensures .0) (c .before .if4 .left) in
-    rw (toZ-ofZ {w = w64} {z = c .loss-within .result} (record { sfits = c .loss-within .ok }), c .loss-within .ensures) (sym (loss-answered _ _ _ (valid (c .before .before .before .before .before .before .before .before .before .before)) w))
+    let below-last = c .before .before .before .before in
+    let last-speed = below-last .before in
+    let above-first = last-speed .before .before in
+    let first-speed = above-first .before in
+    let is-map = first-speed .before .before in
+    let w = parts.within _ _ _ _ _ (valid is-map) _ _ (first-speed .number .ensures .0) (above-first .if2 .left) _ (last-speed .number2 .ensures .0) (below-last .if3 .left) _ (c .before .before .number3 .ensures .0) (c .before .if4 .left) in
+    rw (toZ-ofZ {w = w64} {z = c .loss-within .result} (record { sfits = c .loss-within .ok }), c .loss-within .ensures) (sym (loss-answered _ _ _ (valid is-map) w))
 
 pub loss-in-parts-spec : {M : Type 1} → statement M
 loss-in-parts-spec =

@@ -20,7 +20,7 @@ mul-rounded-up c = search needs
 rounded-up-requires : tie.Need-rounded-up-requires
 rounded-up-requires c κs =
     let p = c .before .before .pre in
-    (omega (arith, p .0 .least-span), omega (arith, c .before .product .ensures, mul-le-mul (mul-le-mul (p .0 .sensitivity) (p .0 .difference)) (p .2)))
+    (omega (arith, p .0 .span .0), omega (arith, c .before .product .ensures, mul-le-mul (mul-le-mul (p .0 .sensitivity .1) (p .0 .difference .1)) (p .2)))
 
 is-part : (c : tie.After-rounded-up) → c .rounded-up .result ≡ grainsUp (temperatureOnSensitivity (c .before .before .before .args .sensor) (c .before .before .before .args .torque))
 unfolding grainsUp temperatureOnSensitivity

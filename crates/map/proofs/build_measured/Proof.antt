@@ -1,8 +1,8 @@
 -- `map::build_measured` meets its contract. Assumes nothing.
 use mathlib.Core.Path.{refl}
 use denote.Ref.{now}
-use Rattle.map.specs.Answers.{benchOf, speedPartEntries}
-use Rattle.map.proofs.SpeedParts.{speed-size}
+use Rattle.rows.specs.Answers.{speedPartEntries, benchOf}
+use Rattle.rows.proofs.SpeedParts.{speed-size}
 use Rattle.map.proofs.Copying.{own-stretch}
 use borrow.Author.Needs.{needs}
 use Rattle.map.proofs.build_measured.Statement.{statement}

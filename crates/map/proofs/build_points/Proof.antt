@@ -9,19 +9,26 @@ use Rattle.map.proofs.build_points.Statement.{statement}
 use Rattle.map.proofs.build_points.Tie as tie
 
 mul-points : tie.Need-mul-points
-mul-points c = omega (arith, few-points _ _ (c .before .before .before .before .before .pre .0) _ (c .before .before .before .before .before .pre .1))
+mul-points c =
+    let start = c .before .before .before .before .before in
+    omega (arith, few-points _ _ (start .pre .0) _ (start .pre .1))
 
 returns : tie.Need-returns
-returns c = short _ _ (c .before .before .before .before .before .before .pre .0) _ (c .before .before .before .before .before .before .pre .1) _ (c .if1 .taken)
+returns c =
+    let start = c .before .before .before .before .before .before in
+    short _ _ (start .pre .0) _ (start .pre .1) _ (c .if1 .taken)
 
 build-standard-requires : tie.Need-build-standard-requires
 build-standard-requires c κs =
-    let read = c .before .before .before .before .before .before .before .before .before .before .pre .0 in
-    let e = c .before .before .before .before .before .before .before .before .before .before .pre .1 in
+    let room = c .before .before .before .before in
+    let given-bytes = room .before .before .before .before .before in
+    let start = given-bytes .before in
+    let read = start .pre .0 in
+    let e = start .pre .1 in
     let few = few-torques _ _ read _ e in
-    let areBytes : AreBytes (now (c .before .before .before .before .before .before .before .before .before .before .args .«data»)) = λ i h. c .before .before .before .before .before .before .before .before .before .shared-slice-known .given i .fits in
+    let areBytes : AreBytes (now (start .args .«data»)) = λ i h. given-bytes .shared-slice-known .given i .fits in
     let l = line-range _ _ read _ e areBytes in
-    (l .0, l .1, ratio-most _ _ read _ e areBytes, torques-most _ _ read _ e areBytes, omega (arith, few, c .before .before .before .before .before .before .before .before .before .before .pre .2), c .before .before .before .before .if1 .left, few)
+    (l .0, l .1, ratio-most _ _ read _ e areBytes, torques-most _ _ read _ e areBytes, omega (arith, few, start .pre .2), room .if1 .left, few)
 
 same-length : tie.Need-same-length
 same-length c = search needs
@@ -30,38 +37,51 @@ same-length-2 : tie.Need-same-length-2
 same-length-2 c = search needs
 
 returns-2 : tie.Need-returns-2
-returns-2 c = standard-built _ _ (c .before .before .before .before .before .before .before .before .before .before .before .before .before .before .before .pre .0) _ (c .before .before .before .before .before .before .before .before .before .before .before .before .before .before .before .pre .1) (λ i h. c .before .before .before .before .before .before .before .before .before .before .before .before .before .before .shared-slice-known .given i .fits) (c .before .before .before .before .before .before .before .if2 .taken) _ _ (c .before .before .before .before .before .before .before .before .before .if1 .left) (c .before .before .before .before .build-standard .ensures)
+returns-2 c =
+    let built = c .before .before .before .before in
+    let kind = built .before .before .before in
+    let room = kind .before .before in
+    let given-bytes = room .before .before .before .before .before in
+    let start = given-bytes .before in
+    standard-built _ _ (start .pre .0) _ (start .pre .1) (λ i h. given-bytes .shared-slice-known .given i .fits) (kind .if2 .taken) _ _ (room .if1 .left) (built .build-standard .ensures)
 
 bench-of-requires : tie.Need-bench-of-requires
 bench-of-requires c κs = search needs
 
 sub-build-measured : tie.Need-sub-build-measured
-sub-build-measured c = c .before .before .before .before .before .before .before .before .before .before .pre .0 .rows .0
+sub-build-measured c =
+    let start = c .before .before .before .before .before .before .before .before .before .before in
+    start .pre .0 .rows .0
 
 part-build-measured-start : tie.Need-part-build-measured-start
-part-build-measured-start c = c .before .before .before .before .before .before .before .before .before .before .pre .0 .rows .0
+part-build-measured-start c =
+    let start = c .before .before .before .before .before .before .before .before .before .before in
+    start .pre .0 .rows .0
 
 part-build-measured-end : tie.Need-part-build-measured-end
-part-build-measured-end c = c .before .before .before .before .before .before .before .before .before .before .pre .0 .rows .1
+part-build-measured-end c =
+    let start = c .before .before .before .before .before .before .before .before .before .before in
+    start .pre .0 .rows .1
 
 build-measured-requires : tie.Need-build-measured-requires
 build-measured-requires c κs =
-    let read = c .before .before .before .before .before .before .before .before .before .before .before .before .before .pre .0 in
-    let e = c .before .before .before .before .before .before .before .before .before .before .before .before .before .pre .1 in
+    let kind = c .before .before .before .before .before in
+    let room = kind .before .before in
+    let given-bytes = room .before .before .before .before .before in
+    let start = given-bytes .before in
+    let read = start .pre .0 in
+    let e = start .pre .1 in
     let few = few-torques _ _ read _ e in
-    let areBytes : AreBytes (now (c .before .before .before .before .before .before .before .before .before .before .before .before .before .args .«data»)) = λ i h. c .before .before .before .before .before .before .before .before .before .before .before .before .shared-slice-known .given i .fits in
+    let areBytes : AreBytes (now (start .args .«data»)) = λ i h. given-bytes .shared-slice-known .given i .fits in
     let points = few-points _ _ read _ e in (
-      bench-right _ _ read _ e areBytes (c .before .before .before .before .before .if2 .left) _ (c .before .before .before .bench-of .ensures),
-      rows-long _ _ read _ e areBytes (c .before .before .before .before .before .if2 .left),
-      omega (arith, points, c .before .before .before .before .before .before .before .before .before .before .before .before .before .pre .2),
-      c .before .before .before .before .before .before .before .if1 .left,
-      part-within (now (c .before .before .before .before .before .before .before .before .before .before .before .before .before .args .«data»)) (c .before .before .before .before .before .before .before .before .before .before .before .before .before .args .c .rows .start) (c .before .before .before .before .before .before .before .before .before .before .before .before .before .args .c .rows .end) (2 ^ 64) (read .rows .0) (read .rows .1) (omega (arith, c .before .before .before .before .before .before .before .before .before .before .before .before .before .good)),
+      bench-right _ _ read _ e areBytes (kind .if2 .left) _ (c .before .before .before .bench-of .ensures),
+      rows-long _ _ read _ e areBytes (kind .if2 .left),
+      omega (arith, points, start .pre .2),
+      room .if1 .left,
+      part-within (now (start .args .«data»)) (start .args .c .rows .start) (start .args .c .rows .end) (2 ^ 64) (read .rows .0) (read .rows .1) (omega (arith, start .good)),
       few,
       read .counts .speeds,
     )
-
-answer-of-requires : tie.Need-answer-of-requires
-answer-of-requires c κs = search needs
 
 same-length-3 : tie.Need-same-length-3
 same-length-3 c = search needs
@@ -71,8 +91,13 @@ same-length-4 c = search needs
 
 returns-3 : tie.Need-returns-3
 returns-3 c =
-    rw (c .answer-of .ensures)
-    (measured-built _ _ (c .before .before .before .before .before .before .before .before .before .before .before .before .before .before .before .before .before .before .before .pre .0) _ (c .before .before .before .before .before .before .before .before .before .before .before .before .before .before .before .before .before .before .before .pre .1) (λ i h. c .before .before .before .before .before .before .before .before .before .before .before .before .before .before .before .before .before .before .shared-slice-known .given i .fits) (c .before .before .before .before .before .before .before .before .before .before .before .if2 .left) _ _ (c .before .before .before .before .before .before .before .before .before .before .before .before .before .if1 .left) _ (c .before .before .before .before .before .before .before .before .before .bench-of .ensures) (c .before .before .before .before .before .build-measured .result) (c .before .before .before .before .before .build-measured .ensures .0) (c .before .before .before .before .before .build-measured .ensures .1))
+    let built = c .before .before .before .before in
+    let bench = built .before .before .before .before in
+    let kind = bench .before .before in
+    let room = kind .before .before in
+    let given-bytes = room .before .before .before .before .before in
+    let start = given-bytes .before in
+    measured-built _ _ (start .pre .0) _ (start .pre .1) (λ i h. given-bytes .shared-slice-known .given i .fits) (kind .if2 .left) _ _ (room .if1 .left) _ (bench .bench-of .ensures) (built .build-measured .result) (built .build-measured .ensures .0) (built .build-measured .ensures .1)
 
 pub build-points-spec : {M : Type 1} → statement M
 build-points-spec =
@@ -89,7 +114,6 @@ build-points-spec =
     part-build-measured-start
     part-build-measured-end
     build-measured-requires
-    answer-of-requires
     same-length-3
     same-length-4
     returns-3)

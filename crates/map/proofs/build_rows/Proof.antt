@@ -9,7 +9,7 @@ use lib.ListN.{length, length-drop}
 use borrow.Author.Needs.{needs}
 use Rattle.refusal.specs.Outcome.{accepted}
 use Rattle.map.specs.Answers.{stretch}
-use Rattle.map.proofs.Joining.{Joining, none-joined, room, one-joined, all-joined, tail-lent}
+use Rattle.grid.proofs.Filling.{Joining, none-joined, room, one-joined, all-joined, tail-lent}
 use Rattle.grid.proofs.Points.{row-within}
 use Rattle.map.proofs.Copying.{source-room, stretch-size, stretch-is}
 use Rattle.map.proofs.build_rows.Statement.{statement}
@@ -65,15 +65,20 @@ part-build-row-end-2 c = omega (arith, within (c .before))
 
 build-row-requires : tie.Need-build-row-requires Inv-loop μ-loop
 build-row-requires c κs =
+    let start = c .before .before .before .before .before .before in
     let w = within (c .before .before) in
-    rw (stretch-is _ _ _ _ _ (c .before .before .before .loop .inv .0), stretch-size _ _ _ _ (c .before .before .before .before .before .before .pre .0) _ (c .before .before .loop-test .taken), tail-lent (c .before .before .before .loop .first) (c .before .before .before .loop .entries), length-drop)
+    rw (stretch-is _ _ _ _ _ (c .before .before .before .loop .inv .0), stretch-size _ _ _ _ (start .pre .0) _ (c .before .before .loop-test .taken), tail-lent (c .before .before .before .loop .first) (c .before .before .before .loop .entries), length-drop)
     (omega (arith, w))
 
 add-source : tie.Need-add-source Inv-loop μ-loop
-add-source c = omega (arith, within (c .before .before .before .before .before))
+add-source c =
+    let body = c .before .before .before .before .before in
+    omega (arith, within body)
 
 add-first : tie.Need-add-first Inv-loop μ-loop
-add-first c = omega (arith, within (c .before .before .before .before .before))
+add-first c =
+    let body = c .before .before .before .before .before in
+    omega (arith, within body)
 
 add-speed : tie.Need-add-speed Inv-loop μ-loop
 add-speed c = search needs
@@ -83,9 +88,12 @@ loop-less c = search needs
 
 loop-again : tie.Need-loop-again Inv-loop μ-loop
 loop-again c =
-    let inv = c .before .before .before .before .before .before .loop .inv in (
+    let more = c .before .before .before .before .before in
+    let loop-top = more .before in
+    let start = loop-top .before .before .before in
+    let inv = loop-top .loop .inv in (
       rw (add-one, suc-mul, inv .0),
-      one-joined _ _ _ _ (stretch-size _ _ _ _ (c .before .before .before .before .before .before .before .before .before .pre .0)) _ _ _ _ (inv .1) (c .before .before .before .before .before .loop-test .taken) refl _
+      one-joined _ _ _ _ (stretch-size _ _ _ _ (start .pre .0)) _ _ _ _ (inv .1) (more .loop-test .taken) refl _
           (rw (stretch-is _ _ _ _ _ (inv .0)) at (c .before .before .build-row .ensures))
           (c .before .entries .given .1),
     )
@@ -94,7 +102,9 @@ same-length : tie.Need-same-length Inv-loop μ-loop
 same-length c = search needs
 
 returns : tie.Need-returns Inv-loop μ-loop
-returns c = all-joined _ _ _ _ (stretch-size _ _ _ _ (c .before .before .before .before .pre .0)) _ _ _ _ (c .before .loop .inv .1) (c .loop-test .left)
+returns c =
+    let start = c .before .before .before .before in
+    all-joined _ _ _ _ (stretch-size _ _ _ _ (start .pre .0)) _ _ _ _ (c .before .loop .inv .1) (c .loop-test .left)
 
 pub build-rows-spec : {M : Type 1} → statement M
 build-rows-spec =

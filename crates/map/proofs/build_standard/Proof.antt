@@ -2,7 +2,7 @@
 use mathlib.Core.Path.{refl}
 use denote.Ref.{now}
 use Rattle.map.specs.Answers.{standardRow}
-use Rattle.map.proofs.Filling.{length-tabulate}
+use Rattle.grid.proofs.Lists.{length-tabulate}
 use Rattle.map.proofs.Copying.{same-row}
 use borrow.Author.Needs.{needs}
 use Rattle.map.proofs.build_standard.Statement.{statement}

@@ -5,7 +5,7 @@ use lib.ListN.{length}
 use borrow.Author.Needs.{needs}
 use Rattle.refusal.specs.Outcome.{accepted}
 use Rattle.map.specs.Answers.{standardAt}
-use Rattle.map.proofs.Filling.{Filling, length-tabulate, none-filled, one-filled, all-filled}
+use Rattle.grid.proofs.Filling.{Filling, none-filled, one-filled, all-filled}
 use Rattle.map.proofs.standard_row.Statement.{statement}
 use Rattle.map.proofs.standard_row.Tie as tie
 
@@ -49,7 +49,7 @@ same-length : tie.Need-same-length Inv-loop μ-loop
 same-length c = search needs
 
 returns : tie.Need-returns Inv-loop μ-loop
-returns c = rw length-tabulate at (all-filled _ _ _ _ _ _ (c .before .loop .inv) (c .loop-test .left))
+returns c = all-filled _ _ _ _ _ _ (c .before .loop .inv) (c .loop-test .left)
 
 pub standard-row-spec : {M : Type 1} → statement M
 standard-row-spec =

@@ -4,7 +4,7 @@ use mathlib.Core.Path.{refl}
 use lib.ListN.{length}
 use borrow.Author.Needs.{needs}
 use Rattle.refusal.specs.Outcome.{accepted}
-use Rattle.map.proofs.Filling.{Filling, length-tabulate, none-filled, one-filled, all-filled}
+use Rattle.grid.proofs.Filling.{Filling, none-filled, one-filled, all-filled}
 use Rattle.timing.specs.Roots.{rootAt, rootsOf}
 use Rattle.timing.proofs.fill_roots.Statement.{statement}
 use Rattle.timing.proofs.fill_roots.Tie as tie
@@ -48,7 +48,7 @@ same-length c = search needs
 
 returns : tie.Need-returns Inv-loop μ-loop
 unfolding rootsOf
-returns c = rw length-tabulate at (all-filled _ _ _ _ _ _ (c .before .loop .inv) (c .loop-test .left))
+returns c = all-filled _ _ _ _ _ _ (c .before .loop .inv) (c .loop-test .left)
 
 pub fill-roots-spec : {M : Type 1} → statement M
 fill-roots-spec =

@@ -1,0 +1,5 @@
+pub mod Torques
+pub mod RowChecks
+pub mod Acceptance
+pub mod RowParts
+pub mod SpeedParts
