@@ -71,6 +71,6 @@ pub record Held (figures : Figures) (speeds torques : List ℕ) (entry : ℕ →
   pub not-far-above-first : BelowFirstTorque torques p → (f : Corners Fraction) → ChosenAbove speeds torques exact p k f
       → signed z ≺ sum speeds torques p k f ⊕ whole (figures .above-first)
 
--- the figures that entries with this excess give: their own rounding is once more 1
+-- the figures that entries with this excess give: the rounding of the answer adds 1
 abbrev pub figuresOf : (excess : ℕ) → Figures
 figuresOf excess = record { above = excess + 1; below-first = excess; above-first = 2 * excess + 1 }

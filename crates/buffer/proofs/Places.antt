@@ -9,31 +9,31 @@ use native.Mathlib.Omega.{arith}
 use lib.ListN.{length, take, drop, set, getD, length-append, length-drop, take-append-drop}
 use lib.Seq.{length-take-le, take-at, drop-at, drop-drop, take-suc, set-split, set-at}
 use Rattle.buffer.specs.Digits.{lastDigits}
-use Rattle.grid.specs.Lists.{joined}
+use Rattle.grid.specs.Lists.{joined, overwritten}
 use Rattle.buffer.specs.Written.{withText, TextWritten}
 use Rattle.buffer.proofs.Digits.{length-digits, digits-last}
 
 -- ---- a text in place of what stood there
-pub length-placed : (old : List ℕ) (at : ℕ) (t : List ℕ) → at + length t ≤ length old → length (withText old at t) ≡ length old
+pub length-with-text : (old : List ℕ) (at : ℕ) (t : List ℕ) → at + length t ≤ length old → length (withText old at t) ≡ length old
 unfolding withText
-length-placed old at t h = simp (length-append, length-drop, length-take-le at old (omega arith)) (omega arith)
+length-with-text old at t h = simp (length-append, length-drop, length-take-le at old (omega arith)) (omega arith)
 
-pub placed-byte : (old : List ℕ) (at b : ℕ) → at + 1 ≤ length old → set old at b ≡ withText old at (b ∷ [])
+pub text-byte : (old : List ℕ) (at b : ℕ) → at + 1 ≤ length old → set old at b ≡ withText old at (b ∷ [])
 unfolding withText
-placed-byte old at b h = set-split old at b (omega arith) ∙ rw (add-one at)
+text-byte old at b h = set-split old at b (omega arith) ∙ rw (add-one at)
 
-pub placed-start : (old t : List ℕ) → withText old 0 t ≡ t ++ drop (length t) old
+pub text-start : (old t : List ℕ) → withText old 0 t ≡ overwritten t old
 unfolding withText
-placed-start old t = rw (zero-add (length t))
+text-start old t = rw (zero-add (length t))
 
-pub placed-nothing : (old : List ℕ) (at : ℕ) → withText old at [] ≡ old
+pub text-nothing : (old : List ℕ) (at : ℕ) → withText old at [] ≡ old
 unfolding withText
-placed-nothing old at = rw add-zero (take-append-drop at old)
+text-nothing old at = rw add-zero (take-append-drop at old)
 
 -- a second text right after the first
-pub placed-then : (old : List ℕ) (at : ℕ) (a b : List ℕ) → at + length a ≤ length old → withText (withText old at a) (at + length a) b ≡ withText old at (a ++ b)
+pub text-then : (old : List ℕ) (at : ℕ) (a b : List ℕ) → at + length a ≤ length old → withText (withText old at a) (at + length a) b ≡ withText old at (a ++ b)
 unfolding withText
-placed-then old at a b h =
+text-then old at a b h =
     let front : length (take at old ++ a) ≡ at + length a = simp (length-append, length-take-le at old (omega arith)) in
     let same : take at old ++ (a ++ drop (at + length a) old) ≡ take at old ++ a ++ drop (at + length a) old = sym (append-assoc (take at old) a (drop (at + length a) old)) in
     rw (same, take-at (take at old ++ a) (drop (at + length a) old) (at + length a) front, ← drop-drop (length b) (at + length a) (take at old ++ a ++ drop (at + length a) old), drop-at (take at old ++ a) (drop (at + length a) old) (at + length a) front)
@@ -41,23 +41,23 @@ placed-then old at a b h =
 
 -- ---- one text after another
 pub written-nothing : (old : List ℕ) (at : ℕ) → TextWritten [] old at at old
-written-nothing old at = record { after = sym (add-zero at); holds = sym (placed-nothing old at) }
+written-nothing old at = record { after = sym (add-zero at); holds = sym (text-nothing old at) }
 
 pub written-then : {a b old between new : List ℕ} {at middle next : ℕ} → TextWritten a old at middle between → TextWritten b between middle next new → at + length a ≤ length old → TextWritten (a ++ b) old at next new
 written-then {a} {b} {old} {between} {new} {at} {middle} {next} p q h =
     record {
       after = simp length-append (omega (arith, p .after, q .after));
-      holds = q .holds ∙ rw (p .holds, p .after) (placed-then old at a b h);
+      holds = q .holds ∙ rw (p .holds, p .after) (text-then old at a b h);
     }
 
 -- ---- bytes copied one after another
 pub byte-copied : (old t : List ℕ) (at i : ℕ) → at + length t ≤ length old → i < length t → set (withText old at (take i t)) (at + i) (getD t i 0) ≡ withText old at (take (i + 1) t)
 byte-copied old t at i h l =
     let size : length (take i t) ≡ i = length-take-le i t (omega arith) in
-    let whole = length-placed old at (take i t) (omega arith) in
+    let whole = length-with-text old at (take i t) (omega arith) in
     let room : at + i + 1 ≤ length (withText old at (take i t)) = omega arith in
-    placed-byte (withText old at (take i t)) (at + i) (getD t i 0) room
-    ∙ rw (add-one i, take-suc t i 0 l, ← placed-then old at (take i t) (getD t i 0 ∷ []) (omega arith), size)
+    text-byte (withText old at (take i t)) (at + i) (getD t i 0) room
+    ∙ rw (add-one i, take-suc t i 0 l, ← text-then old at (take i t) (getD t i 0 ∷ []) (omega arith), size)
 
 -- ---- digits written from the last to the first
 -- of the last count digits of n those of rest are left, and behind them stands what is written

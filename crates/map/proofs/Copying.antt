@@ -7,7 +7,7 @@ use native.Mathlib.Numerals.{add-one}
 use lib.ListN.{length, getD, take, drop, set, length-append, length-drop, length-take}
 use native.Mathlib.Nat.{mul-le-mul-right, suc-mul}
 use lib.Seq.{drop-cons, set-at, take-at, take-suc, take-all, length-take-le}
-use Rattle.grid.specs.Lists.{joined}
+use Rattle.grid.specs.Lists.{joined, overwritten}
 use Rattle.grid.proofs.Lists.{joined-same, joined-stretch}
 use Rattle.map.specs.Answers.{stretch}
 
@@ -32,7 +32,7 @@ module _ (row before : List ℕ) where
         in
         record { below = omega arith; long = rw w (simp (length-append, s2, length-drop) (omega arith)); written = w }
 
-    pub all-copied : length row ≤ i → now ≡ row ++ drop (length row) before
+    pub all-copied : length row ≤ i → now ≡ overwritten row before
     all-copied end =
         let e : i ≡ length row = omega (arith, p .below) in
         p .written ∙ rw (e, take-all (length row) row (omega arith))

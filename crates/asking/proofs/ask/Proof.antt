@@ -16,8 +16,11 @@ same-length c = search needs
 
 returns : tie.Need-returns
 returns c =
-    let areBytes : AreBytes (c .before .before .before .before .before .before .before .before .before .args .«data» .now) = λ i h. c .before .before .before .before .before .before .before .before .shared-slice-known .given i .fits in
-    asks _ _ _ _ (c .before .before .before .before .before .build .result) _ areBytes (c .before .before .before .before .before .build .ensures) (c .loss .ensures)
+    let built = c .before .before .before .before .before in
+    let given-bytes = built .before .before .before in
+    let start = given-bytes .before in
+    let areBytes : AreBytes (start .args .«data» .now) = λ i h. given-bytes .shared-slice-known .given i .fits in
+    asks _ _ _ _ (built .build .result) _ areBytes (built .build .ensures) (c .loss .ensures)
 
 pub ask-spec : {M : Type 1} → statement M
 ask-spec = tie.close (tie.spec build-requires loss-requires same-length returns)

@@ -16,8 +16,12 @@ same-length c = search needs
 
 returns : tie.Need-returns
 returns c =
-    let areBytes : AreBytes (c .before .before .before .before .before .before .before .before .before .before .before .before .args .«data» .now) = λ i h. c .before .before .before .before .before .before .before .before .before .before .before .shared-slice-known .given i .fits in
-    builds-for-c _ _ _ (c .before .before .before .before .before .before .before .before .build .result) areBytes (c .before .before .before .before .before .before .before .before .build .ensures) _ (c .before .before .before .before .before .status-of .ensures)
+    let status = c .before .before .before .before .before in
+    let built = status .before .before .before in
+    let given-bytes = built .before .before .before in
+    let start = given-bytes .before in
+    let areBytes : AreBytes (start .args .«data» .now) = λ i h. given-bytes .shared-slice-known .given i .fits in
+    builds-for-c _ _ _ (built .build .result) areBytes (built .build .ensures) _ (status .status-of .ensures)
 
 pub axle-build-spec : {M : Type 1} → statement M
 axle-build-spec = tie.close (tie.spec build-requires status-of-requires same-length returns)

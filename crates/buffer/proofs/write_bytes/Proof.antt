@@ -6,7 +6,7 @@ use lib.ListN.{length, take, length-set}
 use lib.Seq.{take-length}
 use denote.Ref.{now}
 use Rattle.buffer.specs.Written.{withText}
-use Rattle.buffer.proofs.Places.{byte-copied, placed-nothing}
+use Rattle.buffer.proofs.Places.{byte-copied, text-nothing}
 use borrow.Author.Needs.{needs}
 use Rattle.buffer.proofs.write_bytes.Statement.{statement}
 use Rattle.buffer.proofs.write_bytes.Tie as tie
@@ -18,7 +18,7 @@ abbrev μ-loop : tie.MeasureT-loop
 μ-loop bytes text₀ at i₀ text i = length bytes - i
 
 loop-holds : tie.Need-loop-holds Inv-loop μ-loop
-loop-holds c = (search needs, refl, sym (placed-nothing _ _))
+loop-holds c = (search needs, refl, sym (text-nothing _ _))
 
 shared-slice-read-text : tie.Need-shared-slice-read-text Inv-loop μ-loop
 shared-slice-read-text c = search needs

@@ -17,10 +17,14 @@ write-decimal-requires : tie.Need-write-decimal-requires
 write-decimal-requires c κs = omega (arith, size (c .before .before .args .n))
 
 write-byte-requires : tie.Need-write-byte-requires
-write-byte-requires c κs = omega (arith, size (c .before .before .before .before .before .before .args .n))
+write-byte-requires c κs =
+    let start = c .before .before .before .before .before .before in
+    omega (arith, size (start .args .n))
 
 write-two-digits-requires : tie.Need-write-two-digits-requires
-write-two-digits-requires c κs = omega (arith, size (c .before .before .before .before .before .before .before .before .before .before .args .n))
+write-two-digits-requires c κs =
+    let start = c .before .before .before .before .before .before .before .before .before .before in
+    omega (arith, size (start .args .n))
 
 same-length : tie.Need-same-length
 same-length c = search needs
@@ -28,10 +32,12 @@ same-length c = search needs
 returns : tie.Need-returns
 unfolding hundredths
 returns c =
-    let start = c .before .before .before .before .before .before .before .before .before .before .before .before .before in
+    let point-written = c .before .before .before .before .before .before in
+    let whole-written = point-written .before .before .before .before in
+    let start = whole-written .before .before .before in
     let whole = size (start .args .n) in
     written-then
-    (written-then (c .before .before .before .before .before .before .before .before .before .before .write-decimal .ensures) (c .before .before .before .before .before .before .write-byte .ensures) (omega arith))
+    (written-then (whole-written .write-decimal .ensures) (point-written .write-byte .ensures) (omega arith))
     (c .before .before .write-two-digits .ensures)
     (simp length-append (omega arith))
 

@@ -25,7 +25,10 @@ enum-known-x-2 c = search needs
 
 returns-2 : tie.Need-returns-2
 unfolding axleFields
-returns-2 c = rw (← (rw (c .before .before .before .before .before .field .given .1) at (c .before .before .before .before .before .before .before .byte-number .ensures)), ← (rw (c .before .x2 .given .1) at (c .before .before .before .byte-number2 .ensures)))
+returns-2 c =
+    let kind-read = c .before .before .before .before .before in
+    let kind-call = kind-read .before .before in
+    rw (← (rw (kind-read .field .given .1) at (kind-call .byte-number .ensures)), ← (rw (c .before .x2 .given .1) at (c .before .before .before .byte-number2 .ensures)))
 
 enum-known-field-2 : tie.Need-enum-known-field-2
 enum-known-field-2 c = search needs
@@ -38,14 +41,25 @@ enum-known-x-3 c = search needs
 
 returns-3 : tie.Need-returns-3
 unfolding axleFields
-returns-3 c = rw (← (rw (c .before .before .before .before .before .before .before .before .before .field .given .1) at (c .before .before .before .before .before .before .before .before .before .before .before .byte-number .ensures)), ← (rw (c .before .before .before .before .before .field2 .given .1) at (c .before .before .before .before .before .before .before .byte-number2 .ensures)), ← (rw (c .before .x3 .given .1) at (c .before .before .before .pair-number .ensures)))
+returns-3 c =
+    let line-read = c .before .before .before .before .before in
+    let line-call = line-read .before .before in
+    let kind-read = line-call .before .before in
+    let kind-call = kind-read .before .before in
+    rw (← (rw (kind-read .field .given .1) at (kind-call .byte-number .ensures)), ← (rw (line-read .field2 .given .1) at (line-call .byte-number2 .ensures)), ← (rw (c .before .x3 .given .1) at (c .before .before .before .pair-number .ensures)))
 
 enum-known-field-3 : tie.Need-enum-known-field-3
 enum-known-field-3 c = search needs
 
 returns-4 : tie.Need-returns-4
 unfolding axleFields
-returns-4 c = rw (← (rw (c .before .before .before .before .before .before .before .before .before .before .field .given .1) at (c .before .before .before .before .before .before .before .before .before .before .before .before .byte-number .ensures)), ← (rw (c .before .before .before .before .before .before .field2 .given .1) at (c .before .before .before .before .before .before .before .before .byte-number2 .ensures)), ← (rw (c .before .before .field3 .given .1) at (c .before .before .before .before .pair-number .ensures)))
+returns-4 c =
+    let ratio-call = c .before .before .before .before in
+    let line-read = ratio-call .before .before in
+    let line-call = line-read .before .before in
+    let kind-read = line-call .before .before in
+    let kind-call = kind-read .before .before in
+    rw (← (rw (kind-read .field .given .1) at (kind-call .byte-number .ensures)), ← (rw (line-read .field2 .given .1) at (line-call .byte-number2 .ensures)), ← (rw (c .before .before .field3 .given .1) at (ratio-call .pair-number .ensures)))
 
 pub read-axle-spec : {M : Type 1} → statement M
 read-axle-spec =

@@ -9,7 +9,7 @@ use Rattle.refusal.specs.Table.{told}
 use Rattle.listing.specs.Listing.{refusalLine}
 use Rattle.buffer.proofs.Digits.{length-decimal}
 use Rattle.listing.proofs.Lengths.{length-refusal-line}
-use Rattle.buffer.proofs.Places.{placed-start}
+use Rattle.buffer.proofs.Places.{text-start}
 use Rattle.listing.proofs.Fitted.{fitted-short, fitted-whole}
 use borrow.Author.Needs.{needs}
 use Rattle.listing.proofs.write_refusal.Statement.{statement}
@@ -64,7 +64,7 @@ returns-2 : tie.Need-returns-2
 returns-2 c =
     let told = told-by (c .before .before .before .before .before) in
     let whole = rw told at (c .before .before .write-refusal-line .ensures) in
-    (fitted-whole _ _ _ (whole .after ∙ zero-add _) (omega (arith, needed (c .before .before .before .before .before), whole .after)), (whole .holds ∙ placed-start _ _, short (c .before .before .before .before .before)))
+    (fitted-whole _ _ _ (whole .after ∙ zero-add _) (omega (arith, needed (c .before .before .before .before .before), whole .after)), (whole .holds ∙ text-start _ _, short (c .before .before .before .before .before)))
 
 pub write-refusal-spec : {M : Type 1} → statement M
 write-refusal-spec =

@@ -8,7 +8,7 @@ use lib.ListN.{length, length-append}
 use Rattle.grid.specs.Parts.{gridOf}
 use Rattle.listing.specs.Listing.{listing}
 use Rattle.listing.proofs.Lengths.{length-listing}
-use Rattle.buffer.proofs.Places.{placed-start, written-then}
+use Rattle.buffer.proofs.Places.{text-start, written-then}
 use Rattle.listing.proofs.Fitted.{fitted-short, fitted-whole}
 use borrow.Author.Needs.{needs}
 use Rattle.listing.proofs.write_valid.Statement.{statement}
@@ -52,10 +52,14 @@ same-length c = search needs
 returns-2 : tie.Need-returns-2
 unfolding listing
 returns-2 c =
-    let size = needed (c .before .before .before .before .before .before .before .before .before .before .before .before .before .before .before) in
-    let first-line = rw (c .before .before .before .before .before .before .before .before .before .before .before .before .before .header .ensures) at (c .before .before .before .before .before .before .before .before .before .before .write-bytes .ensures) in
-    let whole = written-then (written-then first-line (c .before .before .before .before .before .before .write-byte .ensures) (omega arith)) (c .before .before .write-rows .ensures) (simp length-append (omega arith)) in
-    (fitted-whole _ _ _ (whole .after ∙ zero-add _) (omega (arith, size, whole .after)), whole .holds ∙ placed-start _ _)
+    let line-ended = c .before .before .before .before .before .before in
+    let header-written = line-ended .before .before .before .before in
+    let header-given = header-written .before .before .before in
+    let room-known = header-given .before .before in
+    let size = needed room-known in
+    let first-line = rw (header-given .header .ensures) at (header-written .write-bytes .ensures) in
+    let whole = written-then (written-then first-line (line-ended .write-byte .ensures) (omega arith)) (c .before .before .write-rows .ensures) (simp length-append (omega arith)) in
+    (fitted-whole _ _ _ (whole .after ∙ zero-add _) (omega (arith, size, whole .after)), whole .holds ∙ text-start _ _)
 
 pub write-valid-spec : {M : Type 1} → statement M
 write-valid-spec =

@@ -31,18 +31,22 @@ neighbour-requires-2 c κs =
 
 cell-numbers-requires : tie.Need-cell-numbers-requires
 cell-numbers-requires c κs =
-    let w = cell-there _ _ _ _ _ (c .before .before .before .before .before .pre .0) _ (c .before .before .before .before .before .pre .1) _ _ (c .before .before .neighbour .ensures) (c .neighbour2 .ensures) in
+    let start = c .before .before .before .before .before in
+    let w = cell-there _ _ _ _ _ (start .pre .0) _ (start .pre .1) _ _ (c .before .before .neighbour .ensures) (c .neighbour2 .ensures) in
     record { speed = w .speed; torque = w .torque; row = w .row; last = w .last }
 
 interpolate-requires : tie.Need-interpolate-requires
 interpolate-requires c κs =
+    let start = c .before .before .before .before .before .before in
     rw (c .cell-numbers .ensures)
-    (cell-bounds _ _ _ _ _ (c .before .before .before .before .before .before .pre .0) _ (c .before .before .before .before .before .before .pre .1) _ _ (c .before .before .before .neighbour .ensures) (c .before .neighbour2 .ensures))
+    (cell-bounds _ _ _ _ _ (start .pre .0) _ (start .pre .1) _ _ (c .before .before .before .neighbour .ensures) (c .before .neighbour2 .ensures))
 
 returns : tie.Need-returns
 returns c =
+    let speed-found = c .before .before .before .before in
+    let start = speed-found .before .before .before in
     toZ-ofZ {w = w64} {z = c .interpolate .result} (record { sfits = c .interpolate .ok })
-    ∙ loss-is _ _ _ _ _ (c .before .before .before .before .before .before .before .pre .0) _ (c .before .before .before .before .before .before .before .pre .1) _ _ (c .before .before .before .before .neighbour .ensures) (c .before .before .neighbour2 .ensures) _ (c .before .cell-numbers .ensures) _ (c .interpolate .ensures)
+    ∙ loss-is _ _ _ _ _ (start .pre .0) _ (start .pre .1) _ _ (speed-found .neighbour .ensures) (c .before .before .neighbour2 .ensures) _ (c .before .cell-numbers .ensures) _ (c .interpolate .ensures)
 
 pub loss-within-spec : {M : Type 1} → statement M
 loss-within-spec =

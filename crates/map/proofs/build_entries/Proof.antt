@@ -14,10 +14,14 @@ part-build-points-start : tie.Need-part-build-points-start
 part-build-points-start c = search needs
 
 part-build-points-end : tie.Need-part-build-points-end
-part-build-points-end c = omega (arith, length-take (c .before .before .before .before .before .before .before .args .c .grid .torques .count) (c .before .before .before .before .before .before .before .args .c .grid .torques .numbers), c .before .before .before .before .before .before .before .pre .0 .counts .torques-length)
+part-build-points-end c =
+    let start = c .before .before .before .before .before .before .before in
+    omega (arith, length-take (start .args .c .grid .torques .count) (start .args .c .grid .torques .numbers), start .pre .0 .counts .torques-length)
 
 build-points-requires : tie.Need-build-points-requires
-build-points-requires c κs = (c .before .before .before .before .before .before .before .before .before .before .pre .0, rw sub-zero refl, c .before .before .before .before .before .before .before .before .before .before .pre .1)
+build-points-requires c κs =
+    let start = c .before .before .before .before .before .before .before .before .before .before in
+    (start .pre .0, rw sub-zero refl, start .pre .1)
 
 same-length : tie.Need-same-length
 same-length c = search needs

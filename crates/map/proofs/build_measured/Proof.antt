@@ -24,7 +24,9 @@ same-length : tie.Need-same-length
 same-length c = search needs
 
 returns : tie.Need-returns
-returns c = (rw (c .before .x .given .1) at (c .before .before .before .before .before .fill-rows .ensures .0), refl)
+returns c =
+    let filled = c .before .before .before .before .before in
+    (rw (c .before .x .given .1) at (filled .fill-rows .ensures .0), refl)
 
 same-length-2 : tie.Need-same-length-2
 same-length-2 c = search needs
@@ -33,11 +35,14 @@ same-length-3 : tie.Need-same-length-3
 same-length-3 c = search needs
 
 returns-2 : tie.Need-returns-2
-returns-2 c = (
-  rw (c .before .before .before .before .before .enum-told .given .1) at (c .before .before .before .before .before .before .before .before .before .fill-rows .ensures .0),
-  rw (own-stretch (speedPartEntries (benchOf (c .before .before .before .before .before .before .before .before .before .before .before .before .before .before .before .args .bench)) (now (c .before .before .before .before .before .before .before .before .before .before .before .before .before .before .before .args .torques)) (now (c .before .before .before .before .before .before .before .before .before .before .before .before .before .before .before .args .rows))) _ _ _ _ (speed-size _ _ _ _) (rw (c .before .before .before .before .before .enum-told .given .1) at (c .before .before .before .before .before .before .before .before .before .fill-rows .ensures .1))) at
-      (c .before .before .build-rows .ensures),
-)
+returns-2 c =
+    let all-fine = c .before .before .before .before .before in
+    let filled = all-fine .before .before .before .before in
+    let start = filled .before .before .before .before .before .before in (
+      rw (all-fine .enum-told .given .1) at (filled .fill-rows .ensures .0),
+      rw (own-stretch (speedPartEntries (benchOf (start .args .bench)) (now (start .args .torques)) (now (start .args .rows))) _ _ _ _ (speed-size _ _ _ _) (rw (all-fine .enum-told .given .1) at (filled .fill-rows .ensures .1))) at
+          (c .before .before .build-rows .ensures),
+    )
 
 pub build-measured-spec : {M : Type 1} → statement M
 build-measured-spec =

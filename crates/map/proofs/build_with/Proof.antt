@@ -14,13 +14,19 @@ refused-requires : tie.Need-refused-requires
 refused-requires c κs = search needs
 
 returns : tie.Need-returns
-returns c = reading-refused _ _ _ _ _ (c .before .before .before .before .read .ensures) (c .before .before .answer .given .1) (c .refused .ensures)
+returns c =
+    let read-call = c .before .before .before .before in
+    reading-refused _ _ _ _ _ (read-call .read .ensures) (c .before .before .answer .given .1) (c .refused .ensures)
 
 enum-told : tie.Need-enum-told
 enum-told c = search needs
 
 build-entries-requires : tie.Need-build-entries-requires
-build-entries-requires c κs = (reading-accepted _ _ (c .before .before .before .before .before .before .read .ensures) (c .before .before .before .before .enum-told .given .1), c .before .before .before .before .before .before .before .before .before .before .pre)
+build-entries-requires c κs =
+    let read-fine = c .before .before .before .before in
+    let read-call = read-fine .before .before in
+    let start = read-call .before .before .before .before in
+    (reading-accepted _ _ (read-call .read .ensures) (read-fine .enum-told .given .1), start .pre)
 
 with-grid-requires : tie.Need-with-grid-requires
 with-grid-requires c κs = search needs
@@ -32,7 +38,11 @@ same-length-2 : tie.Need-same-length-2
 same-length-2 c = search needs
 
 returns-2 : tie.Need-returns-2
-returns-2 c = entries-built _ _ (c .before .before .before .before .before .build-entries .result) _ _ _ (reading-accepted _ _ (c .before .before .before .before .before .before .before .before .before .before .before .before .read .ensures) (c .before .before .before .before .before .before .before .before .before .before .enum-told .given .1)) (c .before .before .before .before .before .build-entries .ensures) (c .with-grid .ensures)
+returns-2 c =
+    let entries-call = c .before .before .before .before .before in
+    let read-fine = entries-call .before .before .before .before .before in
+    let read-call = read-fine .before .before in
+    entries-built _ _ (entries-call .build-entries .result) _ _ _ (reading-accepted _ _ (read-call .read .ensures) (read-fine .enum-told .given .1)) (entries-call .build-entries .ensures) (c .with-grid .ensures)
 
 pub build-with-spec : {M : Type 1} → statement M
 build-with-spec =

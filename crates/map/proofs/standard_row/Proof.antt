@@ -26,7 +26,8 @@ shared-slice-read-standard-entry c = search needs
 
 standard-entry-requires : tie.Need-standard-entry-requires Inv-loop μ-loop
 standard-entry-requires c κs =
-    let p = c .before .before .before .before .before .pre in
+    let start = c .before .before .before .before .before in
+    let p = start .pre in
     (p .0, p .1, p .2, p .3 _ (c .before .loop-test .taken))
 
 mul-row : tie.Need-mul-row Inv-loop μ-loop
@@ -43,7 +44,9 @@ loop-less c = search needs
 
 loop-again : tie.Need-loop-again Inv-loop μ-loop
 unfolding standardAt
-loop-again c = one-filled _ _ _ _ _ _ (c .before .before .before .loop .inv) (c .before .before .loop-test .taken) (c .before .before .before .before .before .before .pre .4) refl _ (c .standard-entry .ensures)
+loop-again c =
+    let start = c .before .before .before .before .before .before in
+    one-filled _ _ _ _ _ _ (c .before .before .before .loop .inv) (c .before .before .loop-test .taken) (start .pre .4) refl _ (c .standard-entry .ensures)
 
 same-length : tie.Need-same-length Inv-loop μ-loop
 same-length c = search needs

@@ -26,7 +26,10 @@ same-length-2 : tie.Need-same-length-2
 same-length-2 c = search needs
 
 returns : tie.Need-returns
-returns c = refusal-reported _ _ _ _ _ _ (c .before .before .before .before .before .before .before .before .before .build .ensures) _ _ (c .before .before .before .before .before .answer .given .1) (c .before .before .write-refusal .ensures)
+returns c =
+    let answered = c .before .before .before .before .before in
+    let built = answered .before .before .before .before in
+    refusal-reported _ _ _ _ _ _ (built .build .ensures) _ _ (answered .answer .given .1) (c .before .before .write-refusal .ensures)
 
 same-length-3 : tie.Need-same-length-3
 same-length-3 c = search needs
@@ -35,7 +38,11 @@ same-length-4 : tie.Need-same-length-4
 same-length-4 c = search needs
 
 returns-2 : tie.Need-returns-2
-returns-2 c = map-reported _ _ _ _ _ _ (c .before .before .before .before .before .before .before .before .before .build .ensures) _ (λ i h. c .before .before .before .before .before .before .before .before .before .before .before .before .before .shared-slice-known .given i .fits) (c .before .before .before .before .before .enum-told .given .1) (c .before .before .write .ensures)
+returns-2 c =
+    let answered = c .before .before .before .before .before in
+    let built = answered .before .before .before .before in
+    let given-bytes = built .before .before .before .before in
+    map-reported _ _ _ _ _ _ (built .build .ensures) _ (λ i h. given-bytes .shared-slice-known .given i .fits) (answered .enum-told .given .1) (c .before .before .write .ensures)
 
 pub write-spec : {M : Type 1} → statement M
 write-spec =

@@ -51,7 +51,12 @@ same-length : tie.Need-same-length Inv-loop μ-loop
 same-length c = search needs
 
 returns : tie.Need-returns Inv-loop μ-loop
-returns c = (refused-there _ _ (c .before .before .before .before .before .before .before .before .loop .inv .passed) (c .before .before .before .before .before .before .before .loop-test .taken) _ (part-refused _ _ _ _ _ _ _ _ refl (c .before .before .before .before .before .before .torque-at .ensures) (c .before .before .before .before .before .torque-at2 .ensures) _ (rw (c .before .x .given .1) at (c .before .before .before .row-entry .ensures))), tt)
+returns c =
+    let output-read = c .before .before .before .before .before in
+    let input-read = output-read .before in
+    let more = input-read .before in
+    let loop-top = more .before in
+    (refused-there _ _ (loop-top .loop .inv .passed) (more .loop-test .taken) _ (part-refused _ _ _ _ _ _ _ _ refl (input-read .torque-at .ensures) (output-read .torque-at2 .ensures) _ (rw (c .before .x .given .1) at (c .before .before .before .row-entry .ensures))), tt)
 
 enum-known-entry : tie.Need-enum-known-entry Inv-loop μ-loop
 enum-known-entry c = search needs
@@ -70,8 +75,13 @@ loop-less c = search needs
 
 loop-again : tie.Need-loop-again Inv-loop μ-loop
 loop-again c =
+    let output-read = c .before .before .before .before .before in
+    let input-read = output-read .before in
+    let more = input-read .before in
+    let loop-top = more .before in
+    let start = loop-top .before .before .before .before in
     let e = rw (c .before .entry .given .1) at (c .before .before .before .row-entry .ensures) in
-    one-filled _ _ _ _ _ _ (c .before .before .before .before .before .before .before .before .loop .inv) (c .before .before .before .before .before .before .before .loop-test .taken) (c .before .before .before .before .before .before .before .before .before .before .before .before .pre .2) (part-accepted _ _ _ _ _ _ _ _ refl (c .before .before .before .before .before .before .torque-at .ensures) (c .before .before .before .before .before .torque-at2 .ensures) _ e) _ (part-entry _ (c .before .before .before .before .before .before .before .before .before .before .before .before .args .torques .now) _ (c .before .before .before .before .before .before .before .before .before .before .before .before .args .place) _ _ _ _ refl (c .before .before .before .before .before .before .torque-at .ensures) (c .before .before .before .before .before .torque-at2 .ensures) _ e)
+    one-filled _ _ _ _ _ _ (loop-top .loop .inv) (more .loop-test .taken) (start .pre .2) (part-accepted _ _ _ _ _ _ _ _ refl (input-read .torque-at .ensures) (output-read .torque-at2 .ensures) _ e) _ (part-entry _ (start .args .torques .now) _ (start .args .place) _ _ _ _ refl (input-read .torque-at .ensures) (output-read .torque-at2 .ensures) _ e)
 
 same-length-2 : tie.Need-same-length-2 Inv-loop μ-loop
 same-length-2 c = search needs

@@ -34,13 +34,18 @@ add-t16 : tie.Need-add-t16
 add-t16 c = search needs
 
 returns-3 : tie.Need-returns-3
-returns-3 c = off-axis _ _ _ _ (c .before .before .before .before .if1 .left) (c .before .before .if2 .left) (sym (c .before .near-axis .ensures) ∙ not-true _ (c .if3 .taken))
+returns-3 c =
+    let input-nominal = c .before .before .before .before in
+    off-axis _ _ _ _ (input-nominal .if1 .left) (c .before .before .if2 .left) (sym (c .before .near-axis .ensures) ∙ not-true _ (c .if3 .taken))
 
 under-zero-requires : tie.Need-under-zero-requires
 under-zero-requires c κs = search needs
 
 returns-4 : tie.Need-returns-4
-returns-4 c = negative _ _ _ _ (c .before .before .before .before .before .before .if1 .left) (c .before .before .before .before .if2 .left) (sym (c .before .before .before .near-axis .ensures) ∙ not-false _ (c .before .before .if3 .left)) (sym (c .before .under-zero .ensures) ∙ c .if4 .taken)
+returns-4 c =
+    let output-nominal = c .before .before .before .before in
+    let input-nominal = output-nominal .before .before in
+    negative _ _ _ _ (input-nominal .if1 .left) (output-nominal .if2 .left) (sym (c .before .before .before .near-axis .ensures) ∙ not-false _ (c .before .before .if3 .left)) (sym (c .before .under-zero .ensures) ∙ c .if4 .taken)
 
 uncertainty-requires : tie.Need-uncertainty-requires
 uncertainty-requires c κs = search needs
@@ -49,13 +54,25 @@ measured-entry-requires : tie.Need-measured-entry-requires
 measured-entry-requires c κs = search needs
 
 returns-5 : tie.Need-returns-5
-returns-5 c = too-large _ _ _ _ (c .before .before .before .before .before .before .before .before .before .if1 .left) (c .before .before .before .before .before .before .before .if2 .left) (sym (c .before .before .before .before .before .before .near-axis .ensures) ∙ not-false _ (c .before .before .before .before .before .if3 .left)) (sym (c .before .before .before .before .under-zero .ensures) ∙ c .before .before .before .if4 .left) _ (entry-is _ _ _ _ (c .before .before .uncertainty .ensures) (c .before .measured-entry .ensures)) (c .if5 .taken)
+returns-5 c =
+    let loss-call = c .before .before .before .before in
+    let near = loss-call .before in
+    let axis-call = near .before in
+    let output-nominal = axis-call .before in
+    let input-nominal = output-nominal .before .before in
+    too-large _ _ _ _ (input-nominal .if1 .left) (output-nominal .if2 .left) (sym (axis-call .near-axis .ensures) ∙ not-false _ (near .if3 .left)) (sym (loss-call .under-zero .ensures) ∙ c .before .before .before .if4 .left) _ (entry-is _ _ _ _ (c .before .before .uncertainty .ensures) (c .before .measured-entry .ensures)) (c .if5 .taken)
 
 cast-t10 : tie.Need-cast-t10
 cast-t10 c = search needs
 
 returns-6 : tie.Need-returns-6
-returns-6 c = entry-given _ _ _ _ (c .before .before .before .before .before .before .before .before .before .if1 .left) (c .before .before .before .before .before .before .before .if2 .left) (sym (c .before .before .before .before .before .before .near-axis .ensures) ∙ not-false _ (c .before .before .before .before .before .if3 .left)) (sym (c .before .before .before .before .under-zero .ensures) ∙ c .before .before .before .if4 .left) _ (entry-is _ _ _ _ (c .before .before .uncertainty .ensures) (c .before .measured-entry .ensures)) (c .if5 .left)
+returns-6 c =
+    let loss-call = c .before .before .before .before in
+    let near = loss-call .before in
+    let axis-call = near .before in
+    let output-nominal = axis-call .before in
+    let input-nominal = output-nominal .before .before in
+    entry-given _ _ _ _ (input-nominal .if1 .left) (output-nominal .if2 .left) (sym (axis-call .near-axis .ensures) ∙ not-false _ (near .if3 .left)) (sym (loss-call .under-zero .ensures) ∙ c .before .before .before .if4 .left) _ (entry-is _ _ _ _ (c .before .before .uncertainty .ensures) (c .before .measured-entry .ensures)) (c .if5 .left)
 
 pub row-entry-spec : {M : Type 1} → statement M
 row-entry-spec =

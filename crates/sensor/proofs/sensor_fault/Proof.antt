@@ -32,7 +32,10 @@ within-requires : tie.Need-within-requires Inv-loop μ-loop
 within-requires c κs = search needs
 
 returns : tie.Need-returns Inv-loop μ-loop
-returns c = sym (c .before .before .before .before .before .loop .inv .1 ∙ first-stops _ _ _ _ (c .before .before .before .before .loop-test .taken) (number-outside _ _ _ _ (c .before .before .before .range-at .ensures) (c .before .within .ensures) (not-true _ (c .if1 .taken))))
+returns c =
+    let more = c .before .before .before .before in
+    let loop-top = more .before in
+    sym (loop-top .loop .inv .1 ∙ first-stops _ _ _ _ (more .loop-test .taken) (number-outside _ _ _ _ (c .before .before .before .range-at .ensures) (c .before .within .ensures) (not-true _ (c .if1 .taken))))
 
 add-i : tie.Need-add-i Inv-loop μ-loop
 add-i c = search needs
@@ -41,7 +44,10 @@ loop-less : tie.Need-loop-less Inv-loop μ-loop
 loop-less c = search needs
 
 loop-again : tie.Need-loop-again Inv-loop μ-loop
-loop-again c = (search needs, c .before .before .before .before .before .loop .inv .1 ∙ first-more _ _ _ (c .before .before .before .before .loop-test .taken) (number-inside _ _ _ _ (c .before .before .before .range-at .ensures) (c .before .within .ensures) (not-false _ (c .if1 .left))))
+loop-again c =
+    let more = c .before .before .before .before in
+    let loop-top = more .before in
+    (search needs, loop-top .loop .inv .1 ∙ first-more _ _ _ (more .loop-test .taken) (number-inside _ _ _ _ (c .before .before .before .range-at .ensures) (c .before .within .ensures) (not-false _ (c .if1 .left))))
 
 returns-2 : tie.Need-returns-2 Inv-loop μ-loop
 returns-2 c = sym (c .before .loop .inv .1 ∙ first-none _ _ _ (c .loop-test .left))
