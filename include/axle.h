@@ -3,9 +3,9 @@
    Link with: gcc -Iinclude program.c target/staticlib/libaxle.a
    `rt staticlib axle` proves the library and writes it.
 
-   Units. Speeds of an axis: whole rpm at the wheel. Torques of an axis: whole
-   Nm at the wheel. Entries and losses: hundredths of Nm. A question's speed:
-   tenths of rpm; its torque: hundredths of Nm.
+   Units. On an axis a speed is in whole rpm and a torque in whole Nm, both at
+   the wheel. Entries and losses: hundredths of Nm. A question's speed: tenths of
+   rpm; its torque: hundredths of Nm.
 
    Answers. `refusal` is 0 where the call is answered, else the number of the
    refusal (below), and `place` its place. Values stand apart from them, and a
@@ -22,18 +22,19 @@
    no state, so calls may run at the same time.
 
    Refusals, by number, with their place:
-     1 one or two bytes left where a field head is due, or a body that runs past
-       the end; 2 another tag than the one due, or no bytes left where a field is
-       due; 3 a length that is not allowed: the head's offset
-     4 a number outside its range; 5 an axis number not above the one before;
-       6 the first torque above the first step; 7 a measured torque above its
-       sensor's nominal torque; 8 an output torque more than 5.00 Nm from its
+     1 a head or a body that the end of the data cuts off; 2 another tag than the
+       one due, or data that ends before the field; 3 a length that the field
+       cannot have: the head's offset
+     4 a number that is not in its range; 5 an axis number that does not rise;
+       6 a first torque above the step to the second; 7 a measured torque above
+       its sensor's nominal torque; 8 an output torque more than 5.00 Nm off its
        axis torque: the number's offset
-     9 a measured loss under zero; 10 an entry above 10,000,000: the row's offset
-     11 fewer entries lent than speeds x torques, or too few bytes for a listing:
-       the count needed
-     12 bytes after the last field: the first such byte
-     20 a speed outside the axis; 21 a torque above the last: 0
+     9 a measured loss that is negative; 10 an entry above 10,000,000 hundredths
+       of Nm: the row's offset
+     11 fewer entries lent than the map has, or a lent buffer too short for a
+       listing: how many are needed
+     12 data that goes on past the last field: the next byte's offset
+     20 a speed below or above its axis; 21 a torque above its axis: 0
      22 what is lent is no map: 0 */
 #ifndef AXLE_H
 #define AXLE_H
@@ -77,8 +78,8 @@ typedef struct {
 } axle_listing_answer;
 
 /* Builds the map of component data. Entry (speed i, torque j) is written to
-   entries[i * torque_count + j]; what stands past the last is not touched. A
-   refused build writes no entry. Refusals 1 to 12. */
+   entries[i * torque_count + j]; what stands past the last is not touched, and
+   a refusal leaves every entry as it was. Refusals 1 to 12. */
 axle_built axle_build(const uint8_t *data, size_t data_length,
                       uint32_t *entries, size_t entry_count);
 
@@ -91,8 +92,8 @@ axle_loss_answer axle_loss(const uint16_t speeds[32], size_t speed_count,
                            const uint32_t *entries, size_t entry_count,
                            uint32_t speed, uint32_t torque);
 
-/* The nearest speed and the nearest torque of the axes; of two equally near, the
-   lower. Refusal 22, for the axes alone. */
+/* The nearest speed and the nearest torque of the axes, the lower one where two
+   are equally near. Refusal 22, for the axes alone. */
 axle_nearest_answer axle_nearest(const uint16_t speeds[32], size_t speed_count,
                                  const uint16_t torques[64], size_t torque_count,
                                  uint32_t speed, uint32_t torque);

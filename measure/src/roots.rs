@@ -17,7 +17,7 @@ pub fn proved(numbers: &[u64], roots: &mut [u64]) {
     }
 }
 
-/// The least whole number whose square is at least n.
+/// The root of n, rounded up.
 pub fn root_up(n: u64) -> u64 {
     let root = n.isqrt();
     if root * root < n {

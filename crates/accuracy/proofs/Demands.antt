@@ -107,7 +107,7 @@ ends-by o (refused t) e f = in-a-refusal t e (f t e)
 pub build-ends : (bytes : List ℕ) (lent : ℕ) → AreBytes bytes → Ends (build bytes lent)
 build-ends bytes lent areBytes = ends-by (build bytes lent) (build bytes lent) refl (of-build bytes lent areBytes)
 
--- "A refused build writes no entry."
+-- a refused build leaves the lent entries as they were
 pub refused-leaves : (bytes before after : List ℕ) (r : Built) (x : Refusal) → Builds bytes before after r → r .answer ≡ Refused x → after ≡ before
 refused-leaves bytes before after r x b e =
     let o : refused (told x) ≡ build bytes (length before) = rw e at (b .outcome) in

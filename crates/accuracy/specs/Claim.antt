@@ -11,23 +11,23 @@ use Rattle.cell.specs.Cell.{Point, Cell, Side, Corners, weight, sum, index, cor
 
 -- ---- an entry
 
--- "An entry itself is never below its exact value and less than .. above. This holds at every point of the grid."
+-- the limits of an entry at each point of the grid; the excess is in hundredths of Nm
 abbrev pub EntriesAccurate : (excess : ℕ) (speeds torques : List ℕ) (entry : ℕ → ℕ → ℕ) (exact : ℕ → ℕ → Cut) → Type 0
 EntriesAccurate excess speeds torques entry exact =
     (i j : ℕ) → i < length speeds → j < length torques → EntryAccurate excess (exact i j) (entry i j)
 
 -- ---- the fractions that an answer is held against
 
--- "the exact entries at the cell's four corners (the exact corners)"
+-- the exact entry at a corner of a cell
 abbrev pub exactCorner : (ℕ → ℕ → Cut) → Cell → Side → Side → Cut
 exactCorner exact k s t = exact (index (k .speed) s) (index (k .torque) t)
 
--- a "choice of fractions at or below the exact corners where the corner's weight is positive, and at or above where it is negative"
+-- one fraction a corner, for the lower limits: at the exact corner or on the side of it that lowers the weighted sum; any where the weight is 0
 pub record ChosenBelow (speeds torques : List ℕ) (exact : ℕ → ℕ → Cut) (p : Point) (k : Cell) (f : Corners Fraction) : Type 0 where
   pub positive : (s t : Side) → whole 0 ≺ weight speeds torques p k s t → exactCorner exact k s t .AtOrBelow (f s t)
   pub negative : (s t : Side) → weight speeds torques p k s t ≺ whole 0 → exactCorner exact k s t .AtOrAbove (f s t)
 
--- "with the sides turned"
+-- for the upper limits, "with the sides turned"
 pub record ChosenAbove (speeds torques : List ℕ) (exact : ℕ → ℕ → Cut) (p : Point) (k : Cell) (f : Corners Fraction) : Type 0 where
   pub positive : (s t : Side) → whole 0 ≺ weight speeds torques p k s t → exactCorner exact k s t .AtOrAbove (f s t)
   pub negative : (s t : Side) → weight speeds torques p k s t ≺ whole 0 → exactCorner exact k s t .AtOrBelow (f s t)
@@ -58,7 +58,7 @@ pub record Figures : Type 0 where
   pub below-first : ℕ
   pub above-first : ℕ
 
--- The answer z "is the one that 'Loss at a point' names", and it keeps its limits against every choice of fractions on the sides of the exact corners.
+-- The answer z is that of "Loss at a point", and it keeps its limits against every choice of fractions on the sides of the exact corners.
 -- Of any speeds, torques, entries and exact entries.
 pub record Held (figures : Figures) (speeds torques : List ℕ) (entry : ℕ → ℕ → ℕ) (exact : ℕ → ℕ → Cut) (p : Point) (k : Cell) (z : ℤ) : Type 0 where
   pub named : RoundsUp (entrySum speeds torques entry p k) z

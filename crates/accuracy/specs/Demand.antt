@@ -1,4 +1,4 @@
--- Document 01, "Accuracy over whole numbers": "Demand 3 is one claim from the data's bytes to the answer, for all data and lent entries that the build accepts, with axes and entries handed on as the build left them." Losses are in hundredths of Nm.
+-- Document 01, "Accuracy over whole numbers": demand 3 as one statement, from bytes through an accepted build to the answers over the axes and entries that it leaves. Losses are in hundredths of Nm.
 use Prim.Native.Nat.{ℕ, _<_}
 use mathlib.Core.Path.{_≡_}
 use mathlib.Core.List.{List}
@@ -21,7 +21,7 @@ use Rattle.accuracy.specs.Claim.{OneStretch, Figures, Held}
 
 -- ---- the exact entries of component data, by the indices of a point's speed and torque
 
--- "The exact entry of kind 1 is the exact loss of the standard rule." For kind 2 it is that of the point's row, whose torques stand in the bytes of tag 8.
+-- For kind 1 it is the standard loss, not rounded; for kind 2 that of the point's row, whose torques stand in the bytes of tag 8.
 unfoldable pub exactOfKind : Component → (speed torque : ℕ) → Kind → Cut
 exactOfKind c speed torque standard = cut (exactStandard (c .line) (c .ratio) (getD (c .torques) torque 0))
 exactOfKind c speed torque (measured input output rows) =
@@ -40,7 +40,7 @@ figures = record {
   above-first = 5;
 }
 
--- "Every query within the map's limits is accepted", and its answer is held in every cell that has the point, of which there is one.
+-- A point within the limits of the map has an answer, which is held in every cell that has the point, of which there is one.
 pub record Answered (c : Component) (grid : Grid) (entries : List ℕ) (p : Point) : Type 0 where
   pub loss : ℤ
   pub answered : lossAnswer grid entries p ≡ accepted loss
@@ -56,14 +56,14 @@ pub record Answered (c : Component) (grid : Grid) (entries : List ℕ) (p : Poin
 pub record Accurate (bytes : List ℕ) (grid : Grid) (entries : List ℕ) : Type 0 where
   pub says : Component
   pub read : component bytes ≡ accepted says
-  -- "The map's axes are those of tags 4 and 5."
+  -- the map has the axes that the data says
   pub speeds : speedsOf (grid .speeds) ≡ says .speeds
   pub torques : torquesOf (grid .torques) ≡ says .torques
   -- each exact entry is one number
   pub one-number : (i j : ℕ) → i < length (says .speeds) → j < length (says .torques) → IsNumber (exactAt says i j)
   -- and has fractions on both sides as near to each other as may be asked, so that what is said of all fractions is said of the number itself
   pub fractions-near : (i j n : ℕ) → i < length (says .speeds) → j < length (says .torques) → 0 < n → Near (exactAt says i j) n
-  -- "An entry itself is never below its exact value and less than 0.02 Nm above. This holds at every point of the grid."
+  -- the limits of each entry: at least the exact one, and less than 0.02 Nm more
   pub entries-near : (i j : ℕ) → i < length (says .speeds) → j < length (says .torques)
       → EntryAccurate 2 (exactAt says i j) (entryAt (length (says .torques)) entries i j)
   pub answers : (p : Point) → Within (says .speeds) (says .torques) p → Answered says grid entries p

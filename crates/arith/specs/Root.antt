@@ -5,12 +5,12 @@ use mathlib.Core.Bool.{true, false}
 use native.Mathlib.Nat.{le-antisymm}
 use lib.Dec.{leb, ltb}
 
--- r is the root of n rounded up: the least whole number whose square is at least n
+-- r is the root of n rounded up: its square reaches n, and that of no smaller number does
 pub record RootUp (n r : ℕ) : Type 0 where
   pub enough : n ≤ r * r
   pub least : (s : ℕ) → n ≤ s * s → r ≤ s
 
--- r is the root of n rounded down: the greatest whole number whose square is at most n
+-- r is the root of n rounded down: its square stays within n, and that of no larger number does
 pub record RootDown (n r : ℕ) : Type 0 where
   pub not-above : r * r ≤ n
   pub greatest : (s : ℕ) → s * s ≤ n → s ≤ r

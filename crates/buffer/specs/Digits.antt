@@ -26,6 +26,6 @@ digitCount n = digitCountBy n n
 unfoldable pub decimal : ℕ → List ℕ
 decimal n = lastDigits (digitCount n) n
 
--- hundredths of Nm: "loss in Nm with two digits after the point"
+-- hundredths of Nm, as whole Nm, a point and two digits
 unfoldable pub hundredths : ℕ → List ℕ
 hundredths n = decimal (n / 100) ++ bytes "." ++ lastDigits 2 n

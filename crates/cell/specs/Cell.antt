@@ -22,7 +22,7 @@ pub record Cell : Type 0 where
   pub speed : ℕ
   pub torque : ℕ
 
--- The cell has the point. "Below the first torque, x and y are the first two torques": there every cell of the first two torques has it.
+-- The cell has the point. A point under the lowest torque is in the cells of the two lowest torques.
 pub record Has (speeds torques : List ℕ) (p : Point) (k : Cell) : Type 0 where
   pub speed-in : k .speed + 1 < length speeds
   pub torque-in : k .torque + 1 < length torques
@@ -40,18 +40,18 @@ pub data Side : Type 0 where
 abbrev pub Corners : Type 0 → Type 0
 Corners A = Side → Side → A
 
--- "Between neighbours x and y, a point at v gives x the share (y − v) / (y − x) and y the share (v − x) / (y − x)."
+-- the share of a side for a point at v, x and y being the numbers of the two sides
 unfoldable pub share : (x y v : ℕ) → Side → Fraction
 share x y v lower = y less v over (y - x)
 share x y v upper = v less x over (y - x)
 
--- "its weight, which is its share in speed times its share in torque"
+-- the weight of a corner: the product of its two shares
 unfoldable pub weight : (speeds torques : List ℕ) → Point → Cell → Corners Fraction
 weight speeds torques p k s t =
     share (10 * getD speeds (k .speed) 0) (10 * getD speeds (k .speed + 1) 0) (p .speed) s
     ⊗ share (100 * getD torques (k .torque) 0) (100 * getD torques (k .torque + 1) 0) (p .torque) t
 
--- "the sum of" what stands "at the cell's four corners .., each times its weight"
+-- what stands at the four corners, weighted and added
 unfoldable pub sum : (speeds torques : List ℕ) → Point → Cell → Corners Fraction → Fraction
 sum speeds torques p k f =
     let w = weight speeds torques p k in

@@ -45,7 +45,7 @@ pub fn cell_numbers(
     }
 }
 
-// "as one fraction rounded up once". What counts for the loss and, below the first torque, what counts against it are kept apart.
+// The loss in a cell, rounded up at the end alone. What counts for the loss and, below the first torque, what counts against it are kept apart.
 pub fn interpolate(cell: CellNumbers, speed: u64, torque: u64) -> i64
     requires { ⌜ CellBounds cell (record { speed = speed; torque = torque }) ⌝ }
     ensures { λ r. ⌜ r ≡ ceiling (interpolation cell (record { speed = speed; torque = torque })) ⌝ }
@@ -71,7 +71,7 @@ fn weighted(speed: u64, torque: u64, entry: u64) -> u64
     speed * torque * entry
 }
 
-// (plus - minus) / den rounded up, "towards plus infinity, also under zero".
+// (plus - minus) / den rounded up, "also under zero".
 fn ceiling(plus: u64, minus: u64, den: u64) -> i64
     requires { ⌜ (0 < den) × (plus < 2 ^ 63) × (minus < 2 ^ 63) ⌝ }
     ensures { λ r. ⌜ r ≡ ceiling (plus less minus over den) ⌝ }

@@ -1,4 +1,4 @@
--- Document 01, "Component data": "Exactly these fields, in this order." "Fields in their order, then 12".
+-- Document 01, "Component data" and "Refusals": the fields of component data in their order, and 12 where more follows.
 use Prim.Native.Nat.{ℕ, _*_}
 use mathlib.Core.List.{List}
 use lib.Dec.{leb, eqb}
@@ -14,7 +14,7 @@ pub record Rows : Type 0 where
   pub start : ℕ
   pub bytes : List ℕ
 
--- "kind, 1 standard or 2 measured", with the fields that are "measured only"
+-- the kind, with the fields that only measured data has
 pub data Kind : Type 0 where
   standard : Kind
   measured : (input output : Sensor) (rows : Rows) → Kind
@@ -53,7 +53,7 @@ axleFields bytes at = do
     next = ratio .next;
   })
 
--- tags 4 and 5; "then numbers left to right (at each, 4 before 5), then 6"
+-- tags 4 and 5; 6 is tested once every torque is right
 pub record AxesNumbers : Type 0 where
   pub speeds : List ℕ
   pub torques : List ℕ
@@ -72,7 +72,7 @@ axesFields bytes at = do
 abbrev pub rows : List ℕ → ℕ → Outcome Rows
 rows body place = accepted (record { start = place; bytes = body })
 
--- tags 6 to 8, for so many points. Tag 8: "exactly 8 × speeds × torques" bytes
+-- tags 6 to 8, for so many points; tag 8 has 8 bytes a point
 unfoldable pub measuredFields : List ℕ → ℕ → ℕ → Outcome (Run Kind)
 measuredFields bytes at points = do
   input ← field bytes at 6 (exactly 18) sensor

@@ -28,7 +28,7 @@ pub struct DataPart {
 pub struct Component {
     // 1 standard, 2 measured
     pub kind: u16,
-    // 1 SR, 2 SRT, 3 SP, 4 HR, 5 HRT
+    // the axle line, 1 to 5: SR, SRT, SP, HR, HRT
     pub line: u16,
     // thousandths
     pub ratio: u16,

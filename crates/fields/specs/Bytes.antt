@@ -1,4 +1,4 @@
--- Document 01, "Component data": "All numbers are unsigned, most significant byte first."
+-- Document 01, "Component data": numbers as bytes, the most significant first.
 use Prim.Native.Nat.{ℕ, _+_, _-_, _*_}
 use mathlib.Core.List.{List, [], _∷_}
 use lib.ListN.{take, drop}

@@ -1,4 +1,4 @@
--- Document 01, "Component data" and "Refusals": one field. "A run of fields: one byte tag, two bytes length, then the body."
+-- Document 01, "Component data" and "Refusals": one field. Its head is a tag in one byte and the length of its body in two.
 use Prim.Native.Nat.{ℕ, _+_, _*_, _/_, _%_}
 use mathlib.Core.Bool.{Bool, _&&_}
 use mathlib.Core.List.{List}
@@ -22,7 +22,7 @@ pub record Head : Type 0 where
   pub start : ℕ
   pub end : ℕ
 
--- the field due at a place. "Order in a field: incomplete head 1, tag 2, length 3, body 1"; "no bytes are left and a field is due" is 2
+-- The field due at a place. Its tests in their order: nothing left (2), a head cut off (1), the tag (2), the length (3), a body cut off (1).
 unfoldable pub head : List ℕ → ℕ → ℕ → (ℕ → Bool) → Outcome Head
 head bytes at tag allowed =
     let bodyLength = numberOf (between bytes (at + 1) (at + 3)) in
@@ -40,7 +40,7 @@ pub record Field (A : Type 0) : Type 0 where
   pub start : ℕ
   pub next : ℕ
 
--- a field: its head, then its body. "A field's body is handed on as the part of the lent bytes it occupies": the bytes, and the place of the first.
+-- a field: its head, then its body, handed on as a part of the data: the bytes, and the place of the first
 unfoldable pub field : {A : Type 0} → List ℕ → ℕ → ℕ → (ℕ → Bool) → (List ℕ → ℕ → Outcome A) → Outcome (Field A)
 field bytes at tag allowed body = do
   found ← head bytes at tag allowed

@@ -1,4 +1,4 @@
-// The fields of component data. "The reading place only moves forward, one field at a time": a cursor by value whose methods return the advanced cursor.
+// The fields of component data. The cursor is a value, and each method returns the one past the field that it read.
 use grid::AxisFault;
 use grid::Range;
 use refusal::Answer;

@@ -31,7 +31,7 @@ axisNumber range ns i = do
 unfoldable pub axisNumbers : Range → List ℕ → ℕ → Outcome (Unit {0})
 axisNumbers range ns count = firstRefusal (axisNumber range ns) 0 count
 
--- "The first torque is at most the second less the first."
+-- tag 5: the first torque is not above the step from it to the second
 unfoldable pub firstStep : List ℕ → Bool
 firstStep ns = leb (getD ns 0 0) (getD ns 1 0 - getD ns 0 0)
 

@@ -1,4 +1,4 @@
--- Document 01, "Refusals", row 22: what is a map. "An axis keeps its numbers together with their count; places past the count mean nothing."
+-- Document 01, "Refusals", row 22: what is a map. An axis has as many numbers as its count says; what stands past them means nothing.
 use Prim.Native.Nat.{ℕ, _*_}
 use mathlib.Core.Bool.{Bool, _&&_}
 use mathlib.Core.List.{List}
@@ -17,11 +17,11 @@ speedsOf axis = take (axis .count) (axis .numbers)
 abbrev pub torquesOf : TorqueAxis → List ℕ
 torquesOf axis = take (axis .count) (axis .numbers)
 
--- "Tag 4: 2 to 32 speeds of 2 bytes, each 1 to 3,000, strictly rising."
+-- tag 4: 2 to 32 speeds, 1 to 3,000 rpm each, rising
 unfoldable pub validSpeeds : List ℕ → ℕ → Bool
 validSpeeds ns count = validNumbers 32 (1 to 3000) ns count
 
--- "Tag 5: 2 to 64 torques of 2 bytes, each 0 to 50,000, strictly rising. The first torque is at most the second less the first."
+-- tag 5: 2 to 64 torques, 0 to 50,000 Nm each, rising, with the rule of the first step
 unfoldable pub validTorques : List ℕ → ℕ → Bool
 validTorques ns count = validNumbers 64 (0 to 50000) ns count && firstStep ns
 
@@ -30,7 +30,7 @@ unfoldable pub validGrid : Grid → Bool
 validGrid grid =
     validSpeeds (grid .speeds .numbers) (grid .speeds .count) && validTorques (grid .torques .numbers) (grid .torques .count)
 
--- no "fewer entries than speeds × torques", and none "of those first ones above 10,000,000"
+-- there are so many entries, and none of the first ones is above 10,000,000 hundredths of Nm
 unfoldable pub validEntries : List ℕ → ℕ → Bool
 validEntries entries count = leb count (length entries) && every (λ i. leb (getD entries i 0) 10000000) count
 

@@ -17,7 +17,7 @@ pub record AxisRules (range : Range) (most : ℕ) (ns : List ℕ) (count : ℕ) 
   pub ranges : (i : ℕ) → i < count → InRange range (getD ns i 0)
   pub rising : (i : ℕ) → i + 1 < count → getD ns i 0 < getD ns (i + 1) 0
 
--- "The first torque is at most the second less the first."
+-- tag 5: the first torque is not above the step from it to the second
 abbrev pub FirstStep : List ℕ → Type 0
 FirstStep torques = getD torques 0 0 ≤ getD torques 1 0 - getD torques 0 0
 

@@ -16,19 +16,19 @@ pub struct Range {
     pub highest: u16,
 }
 
-// Speeds in rpm: "each 1 to 3,000".
+// The range of a speed, in rpm.
 pub const SPEED_RANGE: Range = Range {
     lowest: 1,
     highest: 3000,
 };
 
-// Torques in Nm: "each 0 to 50,000".
+// The range of a torque, in Nm.
 pub const TORQUE_RANGE: Range = Range {
     lowest: 0,
     highest: 50_000,
 };
 
-// "An axis keeps its numbers together with their count; places past the count mean nothing."
+// An axis: its numbers, and how many there are. What stands past the count means nothing.
 pub struct SpeedAxis {
     pub numbers: [u16; 32],
     pub count: usize,
@@ -63,9 +63,9 @@ pub fn empty_grid() -> Grid
 // The first number of an axis that is wrong, by its index.
 pub enum AxisFault {
     Nothing,
-    // 4: "a number outside its range".
+    // 4: it is not in its range.
     OutOfRange(usize),
-    // 5: "an axis number not above the one before".
+    // 5: it does not rise.
     NotRising(usize),
 }
 
@@ -87,7 +87,7 @@ fn above_previous(numbers: &[u16], i: usize) -> bool
     numbers[i - 1] < numbers[i]
 }
 
-// "then numbers left to right (at each, 4 before 5)": the first that is wrong.
+// The first number that is wrong; of one number, the range is tested before the order.
 pub fn axis_fault(numbers: &[u16], range: Range) -> AxisFault
     ensures { λ r. ⌜ faultOf r ≡ axisNumbers range (now (numbers .entry)) (length (now (numbers .entry))) ⌝ }
 {
@@ -105,7 +105,7 @@ pub fn axis_fault(numbers: &[u16], range: Range) -> AxisFault
     AxisFault::Nothing
 }
 
-// "The first torque is at most the second less the first."
+// Whether the first torque is not above the step from it to the second.
 pub fn first_step_holds(first: u16, second: u16) -> bool
     ensures { λ r. ⌜ r ≡ leb first (second - first) ⌝ }
 {
@@ -141,7 +141,7 @@ fn numbers_valid(numbers: &[u16], count: usize, range: Range) -> bool
     valid
 }
 
-// "2 to 32 speeds of 2 bytes, each 1 to 3,000, strictly rising." Over numbers that are lent.
+// Whether lent numbers are a speed axis: 2 to 32 of them, 1 to 3,000 rpm each, rising.
 pub fn speed_numbers_valid(numbers: &[u16; 32], count: usize) -> bool
     ensures { λ r. ⌜ r ≡ validSpeeds (now (numbers .entry)) count ⌝ }
 {
@@ -154,7 +154,7 @@ pub fn speed_numbers_valid(numbers: &[u16; 32], count: usize) -> bool
     numbers_valid(numbers, count, SPEED_RANGE)
 }
 
-// "2 to 64 torques of 2 bytes, each 0 to 50,000, strictly rising. The first torque is at most the second less the first." Over numbers that are lent.
+// Whether lent numbers are a torque axis: 2 to 64 of them, 0 to 50,000 Nm each, rising, with the rule of the first step.
 pub fn torque_numbers_valid(numbers: &[u16; 64], count: usize) -> bool
     ensures { λ r. ⌜ r ≡ validTorques (now (numbers .entry)) count ⌝ }
 {

@@ -70,7 +70,7 @@ pub data Fault (bytes : List ℕ) (t : Told) : Type 0 where
   in-rows : (m n : ℕ) (input output : Sensor) → AxesStand bytes 2 m n
       → SensorStands bytes (19 + 2 * m + 2 * n) 6 input → SensorStands bytes (40 + 2 * m + 2 * n) 7 output
       → FieldFault bytes (61 + 2 * m + 2 * n) 8 (exactly (8 * (m * n))) NoFault t → Fault bytes t
-  -- 12: "bytes after the last field", "first such byte"
+  -- 12: the data goes on past the last field; the place is that of the next byte
   after-torques : (m n : ℕ) → AxesStand bytes 1 m n → 19 + 2 * m + 2 * n < length bytes → t ≡ refusal 12 (19 + 2 * m + 2 * n) → Fault bytes t
   after-rows : (m n : ℕ) (input output : Sensor) (rows : List ℕ) → AxesStand bytes 2 m n
       → SensorStands bytes (19 + 2 * m + 2 * n) 6 input → SensorStands bytes (40 + 2 * m + 2 * n) 7 output

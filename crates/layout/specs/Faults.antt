@@ -27,15 +27,15 @@ lengthAt bytes at = getD bytes (at + 1) 0 * 256 + getD bytes (at + 2) 0
 
 -- rows 1 to 3, where the field with this tag is due at this place
 pub data HeadFault (bytes : List ℕ) (at tag : ℕ) (allowed : ℕ → Bool) (t : Told) : Type 0 where
-  -- 1: "one or two bytes left where a field head is due"
+  -- 1: the end of the data cuts off the head
   head-incomplete : at < length bytes → length bytes < at + 3 → t ≡ refusal 1 at → HeadFault bytes at tag allowed t
-  -- 2: "the tag isn't the one due"
+  -- 2: another tag stands there
   other-tag : at + 3 ≤ length bytes → (getD bytes at 0 ≡ tag → ⊥) → t ≡ refusal 2 at → HeadFault bytes at tag allowed t
-  -- 2: "no bytes are left and a field is due"
+  -- 2: the data ends before the field
   none-left : length bytes ≤ at → t ≡ refusal 2 at → HeadFault bytes at tag allowed t
-  -- 3: "length not allowed"
+  -- 3: a length that is not allowed
   other-length : at + 3 ≤ length bytes → getD bytes at 0 ≡ tag → allowed (lengthAt bytes at) ≡ false → t ≡ refusal 3 at → HeadFault bytes at tag allowed t
-  -- 1: "a body runs past the end"
+  -- 1: the end of the data cuts off the body
   body-incomplete : at + 3 ≤ length bytes → getD bytes at 0 ≡ tag → allowed (lengthAt bytes at) ≡ true → length bytes < at + 3 + lengthAt bytes at → t ≡ refusal 1 at → HeadFault bytes at tag allowed t
 
 -- a field is wrong in its head, or it stands there and its body is wrong
@@ -45,12 +45,12 @@ pub data FieldFault (bytes : List ℕ) (at tag : ℕ) (allowed : ℕ → Bool) (
 
 -- ---- rows 4 to 6, in a body whose first byte is at a place
 
--- 4: "a number outside its range", "its offset"
+-- 4: the body is one number, which is not in its range
 pub record NumberFault (range : Range) (body : List ℕ) (place : ℕ) (t : Told) : Type 0 where
   pub outside : InRange range (numberOf body) → ⊥
   pub told : t ≡ refusal 4 place
 
--- the first wrong number of an axis: 4, or 5: "an axis number not above the one before"
+-- the first wrong number of an axis: 4 where it is not in its range, 5 where it is and does not rise
 pub record AxisFault (range : Range) (body : List ℕ) (place : ℕ) (t : Told) : Type 0 where
   pub index : ℕ
   pub below : index < length (pairs body)
@@ -60,7 +60,7 @@ pub record AxisFault (range : Range) (body : List ℕ) (place : ℕ) (t : Told) 
       ((InRange range (getD (pairs body) index 0) → ⊥) × (t ≡ refusal 4 (place + 2 * index)))
       ⊎ (InRange range (getD (pairs body) index 0) × (0 < index) × (getD (pairs body) index 0 ≤ getD (pairs body) (index - 1) 0) × (t ≡ refusal 5 (place + 2 * index)))
 
--- the torque axis, also 6: "first torque above the first step", "first torque's offset"
+-- the torque axis, also 6 at its first torque, which is then above the step to the second
 pub data TorqueFault (body : List ℕ) (place : ℕ) (t : Told) : Type 0 where
   numbers-wrong : AxisFault (0 to 50000) body place t → TorqueFault body place t
   step-wrong : AxisRules (0 to 50000) 64 (pairs body) (length (pairs body)) → getD (pairs body) 1 0 - getD (pairs body) 0 0 < getD (pairs body) 0 0 → t ≡ refusal 6 place → TorqueFault body place t

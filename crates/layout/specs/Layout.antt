@@ -14,7 +14,7 @@ unfoldable pub numberBytes : List ℕ → List ℕ
 numberBytes [] = []
 numberBytes (n ∷ ns) = twoBytes n ++ numberBytes ns
 
--- "one byte tag, two bytes length, then the body"
+-- a field: its tag, the length of its body, its body
 unfoldable pub fieldBytes : ℕ → List ℕ → List ℕ
 fieldBytes tag body = tag ∷ (twoBytes (length body) ++ body)
 
@@ -26,7 +26,7 @@ measuredBytes (measured input output rows) =
     ++ (fieldBytes 7 (numberBytes (sensorNumbers output))
     ++ fieldBytes 8 (rows .bytes))
 
--- "Exactly these fields, in this order."
+-- all fields in their order
 unfoldable pub layout : Component → List ℕ
 layout c =
     fieldBytes 1 (kindNumber (c .kind) ∷ [])

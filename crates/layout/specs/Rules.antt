@@ -12,7 +12,7 @@ use Rattle.sensor.specs.Sensor.{SensorRules}
 abbrev pub AreBytes : List ℕ → Type 0
 AreBytes bytes = (i : ℕ) → i < length bytes → getD bytes i 0 < 256
 
--- tag 8: "for each speed, for each torque within it, one row: input torque and output torque, 4 bytes each".
+-- tag 8: a row of 8 bytes for each point.
 -- The rows start after 64 bytes of heads and other numbers, and two bytes for each axis number.
 abbrev pub KindRules : (speeds torques : ℕ) → Kind → Type 0
 KindRules speeds torques standard = Unit {0}

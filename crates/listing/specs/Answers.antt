@@ -11,7 +11,7 @@ abbrev pub listingAnswerOf : ListingAnswer → Outcome ℕ
 listingAnswerOf (Length n) = accepted n
 listingAnswerOf (Refused x) = refused (told x)
 
--- "written from the start of a lent buffer .. nothing past that is touched"; a refusal leaves the buffer as it was
+-- the text stands at the start of the buffer, and what follows it is as it was; a refusal leaves the buffer as it was
 abbrev pub contentOf : Outcome ℕ → (text old : List ℕ) → List ℕ
 contentOf (accepted n) text old = overwritten text old
 contentOf (refused t) text old = old

@@ -15,7 +15,7 @@ use Rattle.buffer.specs.Digits.{decimal, hundredths}
 unfoldable pub header : List ℕ
 header = bytes "speed,torque,loss"
 
--- "with speed in rpm, torque in Nm and loss in Nm"; "Every line ends with one line feed."
+-- the line of an entry: speed in rpm, torque in Nm, the entry in Nm with its hundredths, and a line feed
 unfoldable pub line : (speed torque loss : ℕ) → List ℕ
 line speed torque loss = decimal speed ++ bytes "," ++ decimal torque ++ bytes "," ++ hundredths loss ++ bytes "\n"
 
@@ -31,28 +31,28 @@ row speed torques torqueCount entries first = joined (lineAt speed torques entri
 abbrev pub rowOfSpeed : (speeds torques : List ℕ) (torqueCount : ℕ) (entries : List ℕ) (i : ℕ) → List ℕ
 rowOfSpeed speeds torques torqueCount entries i = row (getD speeds i 0) torques torqueCount entries (i * torqueCount)
 
--- "one line for each entry in their order": "for each speed, for each torque within it"
+-- the lines of all entries, speed after speed
 unfoldable pub rows : (speeds : List ℕ) (speedCount : ℕ) (torques : List ℕ) (torqueCount : ℕ) (entries : List ℕ) → List ℕ
 rows speeds speedCount torques torqueCount entries = joined (rowOfSpeed speeds torques torqueCount entries) speedCount
 
--- "the listing: a header, then one line for each entry"
+-- the header, and the lines after it
 unfoldable pub listing : Grid → List ℕ → List ℕ
 listing grid entries =
     header ++ bytes "\n" ++ rows (grid .speeds .numbers) (grid .speeds .count) (grid .torques .numbers) (grid .torques .count) entries
 
 -- ---- the refusal's line
--- "A refusal is one line with number and place, `refused 2 at 0` for empty input."
+-- number and place; data of no bytes has `refused 2 at 0`
 unfoldable pub refusalLine : Told → List ℕ
 refusalLine t = bytes "refused " ++ decimal (t .number) ++ bytes " at " ++ decimal (t .place) ++ bytes "\n"
 
 -- ---- what is answered
--- a text written into a lent buffer of this length: "11 with the bytes needed; its answer is its length"
+-- a text written into a lent buffer of this length: its length is the answer, and the place of 11 where it does not fit
 unfoldable pub fitted : (text : List ℕ) (room : ℕ) → Outcome ℕ
 fitted text room = do
   _ ← require (leb (length text) room) 11 (length text)
   accepted (length text)
 
--- "The listing of a map, written from the start of a lent buffer, tests 22, then 11 with the bytes needed"
+-- the answer of a listing, which tests 22 before 11
 unfoldable pub listed : Grid → List ℕ → (room : ℕ) → Outcome ℕ
 listed grid entries room = do
   _ ← require (validMap grid entries) 22 0

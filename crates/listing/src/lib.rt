@@ -1,4 +1,4 @@
-// The listing of a map and the line of a refusal, written as text from the start of a lent buffer.
+// The listing of a map and the line of a refusal, written as text to the first bytes of a lent buffer.
 use grid::Grid;
 use lent::map_parts_valid;
 use refusal::Refusal;
@@ -185,7 +185,7 @@ fn write_valid(
     ListingAnswer::Length(length)
 }
 
-// Writes the listing of a map from the start of the text, and answers its length: 22, then 11 with the bytes needed.
+// Writes the listing of a map from the start of the text, and answers its length. 22 is tested first, then 11, whose place is that length.
 pub fn write(grid: Grid, entries: &[u32], text: &mut [u8]) -> ListingAnswer
     ensures { λ r. ⌜ listingAnswerOf r ≡ listed grid (now (entries .entry)) (length (now (text .entry))) ⌝ }
     ensures { λ r. ⌜ now (text .exit) ≡ contentOf (listingAnswerOf r) (listing grid (now (entries .entry))) (now (text .entry)) ⌝ }

@@ -26,7 +26,7 @@ pub record Rising (ns : List ℕ) : Type 0 where
   pub two : 2 ≤ length ns
   pub rises : (k : ℕ) → k + 1 < length ns → getD ns k 0 < getD ns (k + 1) 0
 
--- both axes of a map, with "The first torque is at most the second less the first."
+-- both axes of a map, with the rule of the first step
 pub record RisingAxes (ss ts : List ℕ) : Type 0 where
   pub speeds : Rising ss
   pub torques : Rising ts

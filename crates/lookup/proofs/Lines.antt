@@ -1,4 +1,4 @@
--- "On a grid line either cell gives the same sum": so every cell that has a point gives the same sum there. Assumes nothing.
+-- Two cells that share a line have the same sum on it: so every cell that has a point gives the same sum there. Assumes nothing.
 use Prim.Native.Nat.{ℕ, _+_, _-_, _*_, _≤_, _<_}
 use mathlib.Core.Path.{_≡_, refl, sym, ap, subst}
 use mathlib.Core.List.{List}

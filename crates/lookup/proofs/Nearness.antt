@@ -107,7 +107,7 @@ module _ (grid : Grid) (p : Point) where
   unfolding nearestAnswer
   grid-refused e = rw e
 
-  -- axes that keep their rules: the answer is the nearest speed and, separately, the nearest torque
+  -- axes that keep their rules: the answer is the nearest number of each
   pub nearest-answered : validGrid grid ≡ true → (g : GridPoint) × (nearestAnswer grid p ≡ accepted g) × Nearest (speedsOf (grid .speeds)) 10 (p .speed) (g .speed) × Nearest (torquesOf (grid .torques)) 100 (p .torque) (g .torque)
   unfolding nearestAnswer
   nearest-answered e =

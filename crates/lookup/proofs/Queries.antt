@@ -30,13 +30,13 @@ loss-rounds speeds torques entries axes p w k h =
     rounds-up-same _ _ _ (e .0) (e .1) (ceiling-rounds _)
 
 module _ (grid : Grid) (entries : List ℕ) (p : Point) where
-  -- "what is lent as a map breaks a rule"
+  -- what is lent is no map
   pub map-refused : validMap grid entries ≡ false → lossAnswer grid entries p ≡ refuse 22 0
   unfolding lossAnswer
   map-refused e = rw e
 
   module _ (valid : validMap grid entries ≡ true) where
-    -- "query speed outside the axis"
+    -- the speed is outside its axis
     pub speed-refused : (p .speed < 10 * getD (speedsOf (grid .speeds)) 0 0) ⊎ (10 * getD (speedsOf (grid .speeds)) (length (speedsOf (grid .speeds)) - 1) 0 < p .speed) → lossAnswer grid entries p ≡ refuse 20 0
     unfolding lossAnswer
     speed-refused (inl l) = rw (valid, lt-leb _ _ l)
@@ -46,7 +46,7 @@ module _ (grid : Grid) (entries : List ℕ) (p : Point) where
         let e : leb (p .speed) last ≡ false = lt-leb (p .speed) last l in
         rw (valid, e, and-false first)
 
-    -- "query torque above the last torque"
+    -- the torque is above its axis
     pub torque-refused : 10 * getD (speedsOf (grid .speeds)) 0 0 ≤ p .speed → p .speed ≤ 10 * getD (speedsOf (grid .speeds)) (length (speedsOf (grid .speeds)) - 1) 0 → 100 * getD (torquesOf (grid .torques)) (length (torquesOf (grid .torques)) - 1) 0 < p .torque → lossAnswer grid entries p ≡ refuse 21 0
     unfolding lossAnswer
     torque-refused a b l = rw (valid, le-leb _ _ a, le-leb _ _ b, lt-leb _ _ l)

@@ -25,11 +25,11 @@ highestTorque grid = 100 * getD (torquesOf (grid .torques)) (length (torquesOf (
 
 -- why a query is refused: the condition of its row of the table, those of the rows tested before not holding
 pub data QueryFault (grid : Grid) (entries : List ℕ) (p : Point) (told : Told) : Type 0 where
-  -- 22: "what is lent as a map breaks a rule"
+  -- 22: what is lent is no map
   not-a-map : (MapRules grid entries → ⊥) → told ≡ refusal 22 0 → QueryFault grid entries p told
-  -- 20: "query speed outside the axis"
+  -- 20: the speed is outside its axis
   speed-outside : MapRules grid entries → (p .speed < lowestSpeed grid) ⊎ (highestSpeed grid < p .speed) → told ≡ refusal 20 0 → QueryFault grid entries p told
-  -- 21: "query torque above the last torque"
+  -- 21: the torque is above its axis
   torque-above : MapRules grid entries → lowestSpeed grid ≤ p .speed → p .speed ≤ highestSpeed grid → highestTorque grid < p .torque → told ≡ refusal 21 0
       → QueryFault grid entries p told
 
@@ -42,7 +42,7 @@ pub record LossDecided (grid : Grid) (entries : List ℕ) (p : Point) : Type 0 w
   pub refused-for : (told : Told) → QueryFault grid entries p told → lossAnswer grid entries p ≡ refused told
   pub refused-only : (told : Told) → lossAnswer grid entries p ≡ refused told → QueryFault grid entries p told
 
--- "The nearest point tests 22 for axes alone."
+-- the nearest point is answered exactly where both axes keep their rules, and 22 is said where they do not
 pub record NearestDecided (grid : Grid) (p : Point) : Type 0 where
   pub answered : GridRules grid → nearestAnswer grid p ≡ accepted (nearestPoint grid p)
   pub answered-only : (q : GridPoint) → nearestAnswer grid p ≡ accepted q → GridRules grid × (q ≡ nearestPoint grid p)

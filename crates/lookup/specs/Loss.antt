@@ -1,4 +1,4 @@
--- Document 01, "Loss at a point": "linear in torque along both neighbouring speeds, then linear in speed, as one fraction rounded up once (towards plus infinity, also under zero)".
+-- Document 01, "Loss at a point and nearest point": the cell of a point, and the weighted sum of the entries at its corners, rounded up.
 use Prim.Native.Nat.{ℕ, zero, suc, _-_, _*_}
 use mathlib.Core.Bool.{Bool, _&&_, cond}
 use mathlib.Core.List.{List}
@@ -24,13 +24,13 @@ neighbour ns scale v = lastUpTo (λ i. leb (scale * getD ns i 0) v) (length ns -
 unfoldable pub cellOf : (speeds torques : List ℕ) → Point → Cell
 cellOf speeds torques p = record { speed = neighbour speeds 10 (p .speed); torque = neighbour torques 100 (p .torque) }
 
--- the loss at a point within the limits, in hundredths of Nm. "Below the first torque the line through the first two torques is continued down to 0 Nm."
+-- the loss at a point within the limits, in hundredths of Nm; under the lowest torque the line of the two lowest goes on
 unfoldable pub lossAt : (speeds torques entries : List ℕ) → Point → ℤ
 lossAt speeds torques entries p =
     let k = cellOf speeds torques p in
     ceiling (sum speeds torques p k (corners (λ i j. whole (entryAt (length torques) entries i j)) k))
 
--- "A query tests 22, 20, 21."
+-- 22 is tested first, then 20, then 21
 unfoldable pub lossAnswer : Grid → (entries : List ℕ) → Point → Outcome ℤ
 lossAnswer grid entries p =
     let speeds = speedsOf (grid .speeds) in

@@ -1,4 +1,4 @@
--- Document 01, "Nearest point: the nearest speed and, separately, the nearest torque. Of two equally near, the lower. Outside the axis, its end. The answer is those two axis numbers."
+-- Document 01, "Loss at a point and nearest point": the nearest number of each axis by itself, the lower one where two are equally near.
 use Prim.Native.Nat.{ℕ, zero, suc, _+_, _-_, _*_}
 use mathlib.Core.Bool.{cond}
 use mathlib.Core.List.{List}
@@ -36,7 +36,7 @@ nearestPoint grid p = record {
   torque = nearestNumber (torquesOf (grid .torques)) 100 (p .torque);
 }
 
--- "The nearest point tests 22 for axes alone."
+-- 22 where an axis breaks its rules; no entry is asked for
 unfoldable pub nearestAnswer : Grid → Point → Outcome GridPoint
 nearestAnswer grid p = do
   _ ← require (validGrid grid) 22 0

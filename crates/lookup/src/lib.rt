@@ -24,7 +24,7 @@ pub enum NearestAnswer {
     Refused(Refusal),
 }
 
-// The loss at a point, speed in tenths of rpm and torque in hundredths of Nm: "A query tests 22, 20, 21."
+// The loss at a point, speed in tenths of rpm and torque in hundredths of Nm. 22 is tested first, then 20, then 21.
 pub fn loss(grid: Grid, entries: &[u32], speed: u32, torque: u32) -> LossAnswer
     ensures { λ r. ⌜ lossAnswerOf r ≡ lossAnswer grid (now (entries .entry)) (record { speed = speed; torque = torque }) ⌝ }
 {
@@ -111,7 +111,7 @@ fn neighbour(numbers: &[u16], count: usize, scale: u64, v: u64) -> usize
     0
 }
 
-// The nearest grid point: "The nearest point tests 22 for axes alone."
+// The nearest grid point. 22 is tested for the axes; no entry is asked for.
 pub fn nearest(grid: Grid, speed: u32, torque: u32) -> NearestAnswer
     ensures { λ r. ⌜ nearestAnswerOf r ≡ nearestAnswer grid (record { speed = speed; torque = torque }) ⌝ }
 {
@@ -161,7 +161,7 @@ fn nearest_number(numbers: &[u16], count: usize, scale: u64, v: u64) -> u16
     numbers[i]
 }
 
-// Its index. "Of two equally near, the lower."
+// Its index, the lower one where two are equally near.
 fn nearest_index(numbers: &[u16], count: usize, scale: u64, v: u64) -> usize
     requires { ⌜ (0 < count) × (count ≤ length (now numbers)) × (scale ≤ 100) × (v < 2 ^ 32) ⌝ }
     ensures { λ r. ⌜ (r ≡ nearestIndex (take count (now (numbers .entry))) scale v count) × (r < count) ⌝ }

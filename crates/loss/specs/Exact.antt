@@ -26,14 +26,14 @@ pub record Near (cut : Cut) (n : ℕ) : Type 0 where
   pub at-or-above : cut .AtOrAbove above
   pub near : above ≺ below ⊕ (1 over n)
 
--- "An entry itself is never below its exact value and less than .. above", the excess in hundredths of Nm
+-- the limits of an entry against its exact value; the excess is in hundredths of Nm
 pub record EntryAccurate (excess : ℕ) (cut : Cut) (e : ℕ) : Type 0 where
   pub never-below : (q : Fraction) → cut .AtOrBelow q → q ≼ whole e
   pub near : (q : Fraction) → cut .AtOrAbove q → whole e ≺ q ⊕ whole excess
 
--- ---- "An exact entry involves one root, so 'a fraction is at or below it' is a comparison of whole squares."
+-- ---- an exact entry: it has one root, so squares tell on which side of it a fraction is
 
--- the loss plus the part of a root above the allowance (zero if none), in hundredths of Nm. The root is given by its square.
+-- the loss, and added to it what a root has above the allowance, if anything; in hundredths of Nm. The root is given by its square.
 pub record Exact : Type 0 where
   pub loss : Fraction
   pub allowance : Fraction
@@ -47,19 +47,19 @@ cut x = record {
   AtOrAbove = λ q. let y = q ⊖ x .loss ⊕ x .allowance in (x .loss ≼ q) × (x .square ≼ y ⊗ y);
 }
 
--- ---- "The exact entry of kind 1 is the exact loss of the standard rule."
+-- ---- kind 1: the standard loss, not rounded
 
 unfoldable pub exactStandard : (number ratio torque : ℕ) → Exact
 exactStandard number ratio torque =
     record { loss = standardLoss (lineOf number) ratio torque; allowance = whole 0; square = whole 0 }
 
--- ---- "For kind 2, a, b, g and h stay unrounded."
+-- ---- kind 2: no part is rounded
 
 -- a part as it is, in hundredths of Nm
 unfoldable pub unrounded : Part → Fraction
 unrounded p = (p .numerator over p .denominator) ⊗ (1 over 100)
 
--- "A sensor's square is 4 × (a×a + b×b + 3×g×g + h×h) / 3."
+-- the square of a sensor's uncertainty, not rounded
 unfoldable pub sensorSquare : Sensor → ℕ → Fraction
 sensorSquare sensor C =
     let a = unrounded (temperatureOnSensitivity sensor C) in
@@ -68,13 +68,13 @@ sensorSquare sensor C =
     let h = unrounded (parasiticLoads sensor) in
     (4 over 3) ⊗ (a ⊗ a ⊕ b ⊗ b ⊕ whole 3 ⊗ g ⊗ g ⊕ h ⊗ h)
 
--- "The root is taken of ratio × ratio × the input sensor's square + the output sensor's square."
+-- the number under the root: the squares of the sensors, each times that of its factor, added
 unfoldable pub rootSquare : List SensorReading → Fraction
 rootSquare [] = whole 0
 rootSquare (r ∷ rs) =
     (r .factor over 1000) ⊗ (r .factor over 1000) ⊗ sensorSquare (r .sensor) (r .torque) ⊕ rootSquare rs
 
--- "The exact entry is measured loss plus the part of that root above the allowance (zero if none)."
+-- the exact entry of a measured row
 unfoldable pub exactMeasured : Row → Exact
 exactMeasured row = record {
   loss = measuredLoss (row .ratio) (row .input) (output row);

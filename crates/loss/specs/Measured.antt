@@ -18,7 +18,7 @@ use Rattle.loss.specs.declared.MeasuredLoss.{MeasuredLoss}
 use Rattle.loss.specs.declared.MeasuredLoss.the-variants.{UnderZero, Loss}
 use Rattle.loss.specs.Rounding.{roundUp, partAbove, underZero}
 
--- ---- "For one sensor, with C its torque in hundredths, four parts in grains"
+-- ---- one sensor: its parts a, b, g and h and its uncertainty U, in grains; C is its torque in hundredths of Nm
 
 infix 60 _per_
 -- a part before it is rounded
@@ -29,11 +29,11 @@ pub record Part : Type 0 where
 abbrev pub _per_ : ℕ → ℕ → Part
 n per d = record { numerator = n; denominator = d }
 
--- "each rounded up to a whole grain"
+-- a part, rounded up to whole grains
 unfoldable pub grainsUp : Part → ℕ
 grainsUp p = quotientUp (p .numerator) (p .denominator)
 
--- "w × d × C / (100,000 × R)"
+-- part a: temperature on sensitivity
 unfoldable pub temperatureOnSensitivity : Sensor → ℕ → Part
 temperatureOnSensitivity sensor C =
     let w = sensor .sensitivity in
@@ -41,7 +41,7 @@ temperatureOnSensitivity sensor C =
     let R = sensor .span in
     w * d * C per 100000 * R
 
--- "z × d × N / (1,000 × R)"
+-- part b: temperature on zero
 unfoldable pub temperatureOnZero : Sensor → Part
 temperatureOnZero sensor =
     let z = sensor .zero in
@@ -50,7 +50,7 @@ temperatureOnZero sensor =
     let R = sensor .span in
     z * d * N per 1000 * R
 
--- "c × N × 10 / k"
+-- part g: calibration
 unfoldable pub calibration : Sensor → Part
 calibration sensor =
     let c = sensor .calibration in
@@ -58,7 +58,7 @@ calibration sensor =
     let k = sensor .advancement in
     c * N * 10 per k
 
--- "s × p × N / 100,000"
+-- part h: parasitic loads
 unfoldable pub parasiticLoads : Sensor → Part
 parasiticLoads sensor =
     let s = sensor .parasitic in
@@ -74,15 +74,15 @@ fixedParts sensor = record {
   parasitic = grainsUp (parasiticLoads sensor);
 }
 
--- "4 × (a×a + b×b + 3×g×g + h×h)"
+-- what 3 × U × U must reach
 abbrev pub fourSquares : (a b g h : ℕ) → ℕ
 fourSquares a b g h = 4 * (a * a + b * b + 3 * (g * g) + h * h)
 
--- "The sensor's uncertainty is the least whole U with 3 × U × U at least 4 × (a×a + b×b + 3×g×g + h×h)."
+-- U: the root of a third of that, rounded up
 unfoldable pub sensorUncertainty : (a b g h : ℕ) → ℕ
 sensorUncertainty a b g h = rootUp (quotientUp (fourSquares a b g h) 3)
 
--- the same sentence as a law, which one number obeys
+-- the rule for U as document 01 has it: a law that one number obeys
 pub record LeastUncertainty (a b g h U : ℕ) : Type 0 where
   pub enough : fourSquares a b g h ≤ 3 * (U * U)
   pub least : (u : ℕ) → fourSquares a b g h ≤ 3 * (u * u) → U ≤ u
@@ -101,7 +101,7 @@ uncertainty-law a b g h =
       least = λ k l. r .least k (quotientUp-least u (k * k) (omega arith));
     }
 
--- "Call them a, b, g and h." The steps in the annex's order, U last.
+-- the steps in the annex's order: the four parts, then U
 unfoldable pub sensorSteps : Sensor → ℕ → Steps
 sensorSteps sensor C =
     let a = grainsUp (temperatureOnSensitivity sensor C) in
@@ -118,7 +118,7 @@ pub record SensorReading : Type 0 where
   pub sensor : Sensor
   pub torque : ℕ
 
--- "U of the input sensor times the ratio, rounded up to a grain". With the factor 1,000 it is U.
+-- U times a factor in thousandths, in whole grains: V where the factor is the ratio. With the factor 1,000 it is U.
 unfoldable pub scaledUncertainty : (factor U : ℕ) → ℕ
 scaledUncertainty factor U = quotientUp (U * factor) 1000
 
@@ -129,21 +129,21 @@ abbrev pub sumOfSquares : List ℕ → ℕ
 sumOfSquares [] = 0
 sumOfSquares (v ∷ vs) = v * v + sumOfSquares vs
 
--- "The loss uncertainty is the least whole number whose square is at least V×V + W×W."
+-- the loss uncertainty: the root of the sum of the squares, rounded up
 unfoldable pub lossUncertainty : List ℕ → ℕ
 lossUncertainty vs = rootUp (sumOfSquares vs)
 
 -- ---- the entry
 
--- "Measured loss = input torque × ratio − output torque, exact."
+-- the measured loss, not rounded
 unfoldable pub measuredLoss : (ratio input output : ℕ) → Fraction
 measuredLoss ratio input output = whole input ⊗ (ratio over 1000) ⊖ whole output
 
--- "measured loss under zero", which is refused by 9
+-- the measured loss is under zero, which is refused by 9
 unfoldable pub lossIsUnderZero : (ratio input output : ℕ) → Bool
 lossIsUnderZero ratio input output = underZero (measuredLoss ratio input output)
 
--- "The allowance is the larger of 5 % of that loss and 1 Nm at the wheel."
+-- the allowance, which is never less than 1 Nm
 unfoldable pub allowance : (ratio input output : ℕ) → Fraction
 allowance ratio input output = larger ((5 over 100) ⊗ measuredLoss ratio input output) (whole 100)
 
@@ -151,7 +151,7 @@ allowance ratio input output = larger ((5 over 100) ⊗ measuredLoss ratio input
 abbrev pub fromGrains : ℕ → Fraction
 fromGrains T = T over 100
 
--- "The entry is measured loss plus the part of the loss uncertainty above the allowance (zero if none), rounded up once to a hundredth."
+-- the entry from the loss uncertainty in grains; it is rounded up at the end alone
 unfoldable pub entryOf : (ratio input output uncertainty : ℕ) → ℕ
 entryOf ratio input output uncertainty =
     roundUp (measuredLoss ratio input output ⊕ partAbove (fromGrains uncertainty) (allowance ratio input output))

@@ -1,4 +1,4 @@
--- Document 01, "Standard loss": Annex VII, Appendix 3, Table 1. Assumes nothing.
+-- Document 01, "Standard loss", with the table of Annex VII, Appendix 3. Assumes nothing.
 use Prim.Native.Nat.{ℕ, _-_, _≤_}
 use mathlib.Core.Bool.{Bool, true, _&&_}
 use Rattle.grid.specs.Every.{every}
@@ -28,11 +28,11 @@ lines =
 abbrev pub noLine : Line
 noLine = line 100 0 0
 
--- "1 SR, 2 SRT, 3 SP, 4 HR, 5 HRT"
+-- the line that tag 2 names by this number
 abbrev pub lineOf : ℕ → Line
 lineOf number = getD (noLine ∷ lines) number noLine
 
--- "The table's facts (e from 95 to 98, T1 always 20)", and that no T0 is above 90
+-- "The table's facts", and that no T0 is above 90
 pub record LineFacts (l : Line) : Type 0 where
   pub lowest : 95 ≤ l .efficiency
   pub highest : l .efficiency ≤ 98
@@ -54,12 +54,12 @@ pub record Usable (l : Line) : Type 0 where
   pub drag0 : l .t0 ≤ 90
   pub drag1 : l .t1 ≤ 20
 
--- "Exact loss = T0 + T1 × ratio + torque × (100 − e) / e", in hundredths of Nm. The ratio is in thousandths, the torque in Nm.
+-- the exact standard loss, in hundredths of Nm. The ratio is in thousandths, the torque in Nm.
 unfoldable pub standardLoss : Line → (ratio torque : ℕ) → Fraction
 standardLoss l ratio torque =
     let e = l .efficiency in
     whole 100 ⊗ (whole (l .t0) ⊕ whole (l .t1) ⊗ (ratio over 1000) ⊕ whole torque ⊗ (100 - e over e))
 
--- "The entry is the least whole number of hundredths not below it."
+-- the standard entry: the loss rounded up
 unfoldable pub standardEntry : (number ratio torque : ℕ) → ℕ
 standardEntry number ratio torque = roundUp (standardLoss (lineOf number) ratio torque)

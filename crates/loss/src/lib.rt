@@ -73,7 +73,7 @@ fn line_product(a: u64, b: u64, c: u64) -> u64
     a * b * c
 }
 
-// The standard entry: the least whole number of hundredths of Nm not below the exact loss.
+// The standard entry: the exact loss rounded up to a hundredth of Nm.
 pub fn standard_entry(line: u16, ratio: u16, torque: u16) -> u64
     ensures { λ r. ⌜ r ≡ standardEntry line ratio torque ⌝ }
 {
@@ -145,7 +145,7 @@ fn square_of_part(x: u64) -> u64
     x * x
 }
 
-// U from a, b, g and h: the least whole number whose square, times 3, is at least 4 * (a*a + b*b + 3*g*g + h*h).
+// U from a, b, g and h: the root of 4 * (a*a + b*b + 3*g*g + h*h) / 3, rounded up.
 fn sensor_uncertainty(a: u64, b: u64, g: u64, h: u64) -> u64
     requires { ⌜ (a ≤ 25000000) × (b ≤ 25000000) × (g ≤ 5000000) × (h ≤ 5000000) ⌝ }
     ensures { λ r. ⌜ (r ≡ sensorUncertainty a b g h) × (r ≤ 43000000) ⌝ }
@@ -190,7 +190,7 @@ pub fn scaled_uncertainty(factor: u16, uncertainty: u32) -> u64
     rounded_up(at_ratio(uncertainty, factor), 1000)
 }
 
-// The loss uncertainty in grains: the least whole number whose square is at least the sum of the squares.
+// The loss uncertainty in grains: the root of the sum of the squares, rounded up.
 pub fn loss_uncertainty(parts: &[u64]) -> u64
     requires { ⌜ sumOfSquares (now parts) < 2 ^ 64 ⌝ }
     ensures { λ r. ⌜ (r ≡ lossUncertainty (now (parts .entry))) × (r ≤ 4294967296) ⌝ }
@@ -223,7 +223,7 @@ pub fn measured_loss(ratio: u16, input: u32, output: u32) -> MeasuredLoss
     MeasuredLoss::Loss(gained - spent)
 }
 
-// The allowance of a row, in half micronewton metres: the larger of 5 % of the measured loss and 1 Nm.
+// The allowance of a row, in half micronewton metres: a twentieth of the measured loss, and no less than 1 Nm.
 pub fn allowance(ratio: u16, input: u32, output: u32) -> u64
     ensures { λ r. ⌜ Same (r over 20000) (allowance ratio input output) × (r < 2 ^ 48) ⌝ }
 {
@@ -235,7 +235,7 @@ pub fn allowance(ratio: u16, input: u32, output: u32) -> u64
     }
 }
 
-// The entry of a row, from its loss uncertainty in grains: the measured loss plus the part of the uncertainty above the allowance, rounded up to a hundredth.
+// The entry of a row, from its loss uncertainty in grains: what that has above the allowance is added to the measured loss, and the sum rounded up to a hundredth.
 pub fn measured_entry(ratio: u16, input: u32, output: u32, uncertainty: u32) -> u64
     ensures { λ r. ⌜ r ≡ entryOf ratio input output uncertainty ⌝ }
 {

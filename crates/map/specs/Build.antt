@@ -1,4 +1,4 @@
--- Document 01, "Refusals" and "Code places and language forms": the build of a map. "Fields in their order, then 12, then 11, then rows in order".
+-- Document 01, "Refusals" and "Code places and language forms": the build of a map. The data is read to its end (1 to 6, 12), then 11 is tested, then the rows.
 use Prim.Native.Nat.{ℕ, _+_, _*_}
 use mathlib.Core.List.{List}
 use lib.Dec.{leb}
@@ -17,7 +17,7 @@ torqueCount c = length (c .torques)
 abbrev pub points : Component → ℕ
 points c = length (c .speeds) * torqueCount c
 
--- a point's index: "for each speed, for each torque within it"
+-- a point's index: the points of one speed stand together
 abbrev pub pointIndex : Component → ℕ → ℕ → ℕ
 pointIndex c speed torque = speed * torqueCount c + torque
 
@@ -47,7 +47,7 @@ speedCheck c speed = firstRefusal (check c speed) 0 (torqueCount c)
 unfoldable pub rowsCheck : Component → Outcome (Unit {0})
 rowsCheck c = firstRefusal (speedCheck c) 0 (length (c .speeds))
 
--- "each speed's row in its own stretch of the lent entries, torques within it"
+-- the entries of one speed, and those of all speeds one after the other
 unfoldable pub speedEntries : Component → ℕ → List ℕ
 speedEntries c speed = tabulate (entry c speed) (torqueCount c)
 
@@ -60,7 +60,7 @@ pub record LossMap : Type 0 where
   pub torques : List ℕ
   pub entries : List ℕ
 
--- what is built of data that was read, where so many entries are lent: "then 11, then rows in order"
+-- what is built of data that was read, where so many entries are lent: 11 is tested before the rows
 unfoldable pub mapOf : Component → ℕ → Outcome LossMap
 mapOf c lent = do
   _ ← require (leb (points c) lent) 11 (points c)
@@ -73,7 +73,7 @@ build bytes lent = do
   c ← component bytes
   mapOf c lent
 
--- "A refused build writes no entry. An accepted one .. touches nothing beyond the last."
+-- the lent entries at exit: as they were where the build is refused, else with the entries of the map in place of the first ones
 abbrev pub content : Outcome LossMap → List ℕ → List ℕ
 content (accepted m) lent = overwritten (m .entries) lent
 content (refused t) lent = lent

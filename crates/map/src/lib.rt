@@ -21,7 +21,7 @@ pub struct Built {
     pub grid: Grid,
 }
 
-// The row builder: puts a speed's row into its own stretch of the lent entries. It gets the mutable part of them that starts at speed times torque count.
+// The row builder: gets the mutable part of the lent entries from index speed * torque count on, and puts the speed's row at its start.
 fn build_row(row: &[u32], entries: &mut [u32])
     requires { ⌜ length (now row) ≤ length (now entries) ⌝ }
     ensures { λ r. ⌜ now (entries .exit) ≡ overwritten (now (row .entry)) (now (entries .entry)) ⌝ }
@@ -215,8 +215,8 @@ fn build_with(data: &[u8], buffer: &mut [u32], entries: &mut [u32]) -> Built
     with_grid(build_entries(component, data, buffer, entries), grid)
 }
 
-// Builds the map of component data: its axes, and its entries in the lent slice, each speed's row in its own stretch, torques within it.
-// A refused build writes no entry; an accepted one touches nothing beyond the last.
+// Builds the map of component data: its axes, and its entries in the lent slice, the row of one speed after that of another.
+// Where it refuses, the slice stays as it was; where it accepts, so does what stands past the last entry.
 pub fn build(data: &[u8], entries: &mut [u32]) -> Built
     ensures { λ r. ⌜ Builds (now («data» .entry)) (now (entries .entry)) (now (entries .exit)) r ⌝ }
 {

@@ -4,35 +4,35 @@ ghost use Rattle.refusal.specs.Table.{number, place};
 
 // Each case holds the place that is given with it; those without one have place 0.
 pub enum Refusal {
-    // 1: one or two bytes left where a field head is due, or a body past the end. The head's offset.
+    // 1: a head or a body that the end of the data cuts off. The head's offset.
     Incomplete(usize),
-    // 2: not the tag due, or no bytes left where a field is due. The head's offset.
+    // 2: another tag than the one due, or data that ends before the field. The head's offset.
     WrongTag(usize),
-    // 3: a length that is not allowed. The head's offset.
+    // 3: a length that the field cannot have. The head's offset.
     WrongLength(usize),
-    // 4: a number outside its range. Its offset.
+    // 4: a number that is not in its range. The number's offset.
     OutOfRange(usize),
-    // 5: an axis number not above the one before. Its offset.
+    // 5: an axis number that does not rise. The number's offset.
     NotRising(usize),
-    // 6: the first torque above the first step. The first torque's offset.
+    // 6: a first torque above the step to the second. Its offset.
     FirstTorqueAboveStep(usize),
     // 7: a measured torque above its sensor's nominal torque. Its offset.
     AboveNominal(usize),
-    // 8: an output torque over 5.00 Nm from its axis torque. Its offset.
+    // 8: an output torque more than 5.00 Nm off its axis torque. Its offset.
     OffAxisTorque(usize),
-    // 9: a measured loss under zero. The row's offset.
+    // 9: a measured loss that is negative. The row's offset.
     NegativeLoss(usize),
-    // 10: an entry above 10,000,000 hundredths. The row's offset.
+    // 10: an entry above 10,000,000 hundredths of Nm. The row's offset.
     EntryTooLarge(usize),
-    // 11: lent entries too few, or a lent buffer too short. The count needed.
+    // 11: fewer entries lent than the map has, or a lent buffer too short for its text. How many are needed.
     TooShort(usize),
-    // 12: bytes after the last field. The first such byte.
+    // 12: data that goes on past the last field. The next byte's offset.
     TrailingBytes(usize),
-    // 20: a query speed outside the axis.
+    // 20: a query's speed below or above its axis.
     SpeedOutside,
-    // 21: a query torque above the last torque.
+    // 21: a query's torque above its axis.
     TorqueAbove,
-    // 22: what is lent as a map is none.
+    // 22: what is lent is no map.
     NotAMap,
 }
 

@@ -18,16 +18,16 @@ pub record RowRules (bench : Bench) (torque : ℕ) (t : Torques) : Type 0 where
 
 -- the first condition that a row meets; its first byte is at a place
 pub data RowFault (bench : Bench) (torque : ℕ) (t : Torques) (place : ℕ) (told : Told) : Type 0 where
-  -- 7: "measured torque above its sensor's N", input
+  -- 7: the input torque is above its sensor's nominal torque
   input-above : 100 * bench .input .nominal < t .input → told ≡ refusal 7 place → RowFault bench torque t place told
-  -- 7, output
+  -- 7: the output torque is above its own
   output-above : t .input ≤ 100 * bench .input .nominal → 100 * bench .output .nominal < t .output → told ≡ refusal 7 (place + 4) → RowFault bench torque t place told
-  -- 8: "output torque over 5.00 Nm from its axis torque"
+  -- 8: the output torque is more than 5.00 Nm off its axis torque
   off-axis : t .input ≤ 100 * bench .input .nominal → t .output ≤ 100 * bench .output .nominal
       → (100 * torque + 500 < t .output) ⊎ (t .output + 500 < 100 * torque) → told ≡ refusal 8 (place + 4) → RowFault bench torque t place told
-  -- 9: "measured loss under zero"
+  -- 9: the measured loss is under zero
   negative : t .input ≤ 100 * bench .input .nominal → t .output ≤ 100 * bench .output .nominal → t .output ≤ 100 * torque + 500 → 100 * torque ≤ t .output + 500
       → lossIsUnderZero (bench .ratio) (t .input) (t .output) ≡ true → told ≡ refusal 9 place → RowFault bench torque t place told
-  -- 10: "entry above 10,000,000 hundredths"
+  -- 10: the entry is above 10,000,000 hundredths of Nm
   too-large : t .input ≤ 100 * bench .input .nominal → t .output ≤ 100 * bench .output .nominal → t .output ≤ 100 * torque + 500 → 100 * torque ≤ t .output + 500
       → lossIsUnderZero (bench .ratio) (t .input) (t .output) ≡ false → 10000000 < measuredEntry (rowOf bench t) → told ≡ refusal 10 place → RowFault bench torque t place told

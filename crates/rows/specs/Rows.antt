@@ -8,7 +8,7 @@ use Rattle.fields.specs.Bytes.{numberOf, between}
 use Rattle.sensor.specs.declared.Sensor.{Sensor}
 use Rattle.loss.specs.Measured.{Row, measuredRow, lossIsUnderZero, measuredEntry}
 
--- "one row: input torque and output torque, 4 bytes each", in hundredths of Nm
+-- the two torques of a row, four bytes each, in hundredths of Nm
 pub record Torques : Type 0 where
   pub input : ℕ
   pub output : ℕ
@@ -29,11 +29,11 @@ pub record Bench : Type 0 where
 abbrev pub rowOf : Bench → Torques → Row
 rowOf bench t = measuredRow (bench .ratio) (bench .input) (bench .output) (t .input) (t .output)
 
--- not "over 5.00 Nm from its axis torque", which is in Nm
+-- an output torque is at most 5.00 Nm off its axis torque, which is in Nm
 unfoldable pub nearAxis : (torque output : ℕ) → Bool
 nearAxis torque output = leb output (100 * torque + 500) && leb (100 * torque) (output + 500)
 
--- "rows in order: 7 input, 7 output, 8, 9, 10". A place counts from the row's first byte.
+-- The tests of a row, in their order. A place counts from the row's first byte.
 unfoldable pub rowCheck : Bench → ℕ → Torques → Outcome (Unit {0})
 rowCheck bench torque t = do
   _ ← require (leb (t .input) (100 * bench .input .nominal)) 7 0

@@ -104,7 +104,7 @@ enum RowEntry {
     Refused(Refusal),
 }
 
-// A row whose first byte is at a place of the data: 7 input, 7 output, 8, 9, 10.
+// A row whose first byte is at a place of the data: 7 for the input, 7 for the output, then 8, 9 and 10.
 fn row_entry(bench: Bench, torque: u16, input: u32, output: u32, place: usize) -> RowEntry
     requires { ⌜ BenchRight bench × (place + 8 < 2 ^ 64) ⌝ }
     ensures { λ r. ⌜ rowEntryOf r ≡ rowOutcome (benchOf bench) torque (torquesPair input output) place ⌝ }

@@ -45,11 +45,11 @@ gridWith first second = gridOf (100 ∷ 200 ∷ []) 2 (first ∷ second ∷ []) 
 abbrev pub point : ℕ → ℕ → Point
 point speed torque = record { speed = speed; torque = torque }
 
--- "c 100 and k 1,000 at both sensors, all other influences 0"
+-- a sensor whose only influence is calibration
 abbrev pub sensor : ℕ → Sensor
 sensor N = record { nominal = N; sensitivity = 0; zero = 0; calibration = 100; advancement = 1000; parasitic = 0; share = 0; difference = 0; span = 10 }
 
--- "Ratio 3.000; .. N 10,000 in, 40,000 out"
+-- ratio 3.000; nominal torques 10,000 Nm for the input and 40,000 Nm for the output
 abbrev pub bench : Bench
 bench = record { ratio = 3000; input = sensor 10000; output = sensor 40000 }
 

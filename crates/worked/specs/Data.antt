@@ -12,7 +12,7 @@ standardData =
     ∷ 5 ∷ 0 ∷ 4 ∷ 0 ∷ 0 ∷ 3 ∷ 0xE8
     ∷ []
 
--- measured.axle: ratio 3.000, speeds 100 and 200, torques 1,000 and 3,000; c 100 and k 1,000 at both sensors, all other influences 0; N 10,000 in, 40,000 out
+-- measured.axle: ratio 3.000, speeds 100 and 200, torques 1,000 and 3,000; sensors of 10,000 Nm and 40,000 Nm, each with c 100, k 1,000 and no other influence
 abbrev pub measuredData : List ℕ
 measuredData =
     1 ∷ 0 ∷ 1 ∷ 2
