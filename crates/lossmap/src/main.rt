@@ -1,26 +1,65 @@
-// The map program: reads component data from standard input, at most the first 32,768 bytes, and writes the listing of its map or the line of its refusal.
+// The map program: reads component data from standard input, and writes the listing of its map or the line of its refusal to standard output. Where it cannot read, or not write all, it says so on standard error.
+use libc::STDERR_FILENO;
 use libc::STDIN_FILENO;
 use libc::STDOUT_FILENO;
-use listing::ListingAnswer;
+ghost use Prim.Native.Nat.{_≤_};
+ghost use lib.ListN.{length};
+ghost use Rattle.lossmap.specs.Input.{bytesRead};
 
-fn run(data: &[u8]) {
-    let mut entries = [0u32; 2048];
-    let mut text = [0u8; 65536];
-    match report::write(data, &mut entries, &mut text) {
-        ListingAnswer::Length(length) => {
-            if length <= 65536 {
-                io::write_all(STDOUT_FILENO, &text[0..length]);
+// How many bytes were read, or that reading failed.
+enum Input {
+    Bytes(usize),
+    Failed,
+}
+
+// Reads once; no bytes mean that the input has ended.
+fn read_part(part: &mut [u8]) -> Input
+    ensures { λ r. ⌜ bytesRead r ≤ length (now (part .entry)) ⌝ }
+{
+    let got = libc::read(STDIN_FILENO, part);
+    if got < 0 {
+        return Input::Failed;
+    }
+    Input::Bytes(io::count(got, part))
+}
+
+// Reads until the input ends or the buffer is full.
+fn read_input(buffer: &mut [u8]) -> Input {
+    let mut length: usize = 0;
+    while length < buffer.len() {
+        match read_part(&mut buffer[length..]) {
+            Input::Failed => return Input::Failed,
+            Input::Bytes(count) => {
+                if count == 0 {
+                    return Input::Bytes(length);
+                }
+                length += count;
             }
         }
-        // Never: there is room for 2,048 entries and for every report (`enough-entries` and `always-whole` of report's laws).
-        ListingAnswer::Refused(_) => {}
+    }
+    Input::Bytes(length)
+}
+
+// Writes what the proved function makes of the input.
+fn answer(input: &[u8; 32768], length: usize, entries: &mut [u32; 2048], text: &mut [u8; 65536]) {
+    let count = report::program_output(input, length, entries, text);
+    let whole = &text[..];
+    if !io::write_all(STDOUT_FILENO, &whole[0..count]) {
+        io::write_all(
+            STDERR_FILENO,
+            b"lossmap: could not write all of the answer\n",
+        );
     }
 }
 
 fn main() {
-    let mut data = [0u8; 32768];
-    let length = io::read_full(STDIN_FILENO, &mut data);
-    if length <= 32768 {
-        run(&data[0..length]);
+    let mut input = [0u8; 32768];
+    let mut entries = [0u32; 2048];
+    let mut text = [0u8; 65536];
+    match read_input(&mut input) {
+        Input::Bytes(length) => answer(&input, length, &mut entries, &mut text),
+        Input::Failed => {
+            io::write_all(STDERR_FILENO, b"lossmap: could not read standard input\n");
+        }
     }
 }

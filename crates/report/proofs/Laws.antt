@@ -1,9 +1,9 @@
 -- The report of a build: the refusal's line, or the listing of the map that it left. Assumes nothing.
-use Prim.Native.Nat.{ℕ, _+_, _*_, _≤_, _<_}
-use mathlib.Core.Path.{_≡_, refl, sym, _∙_}
-use mathlib.Core.List.{List}
+use Prim.Native.Nat.{ℕ, zero, suc, min, _+_, _-_, _*_, _≤_, _<_}
+use mathlib.Core.Path.{_≡_, refl, sym, ap, _∙_}
+use mathlib.Core.List.{List, [], _∷_}
 use native.Mathlib.Omega.{arith}
-use lib.ListN.{length, take}
+use lib.ListN.{length, length-append, take}
 use lib.Seq.{getD-take}
 use Rattle.refusal.specs.Outcome.{accepted, refused}
 use Rattle.refusal.specs.Table.{told}
@@ -11,7 +11,7 @@ use Rattle.refusal.specs.declared.Refusal.{Refusal}
 use Rattle.grid.specs.Map.{speedsOf, torquesOf}
 use Rattle.grid.specs.Parts.{gridOf}
 use Rattle.grid.specs.declared.Grid.{Grid}
-use native.Mathlib.Nat.{mul-le-mul}
+use native.Mathlib.Nat.{mul-le-mul, zero-min, min-zero, suc-min-suc, sub-zero}
 use Rattle.component.specs.Component.{Component, component}
 use Rattle.component.specs.Answers.{CountsWithin}
 use Rattle.layout.specs.Rules.{AreBytes}
@@ -29,7 +29,7 @@ use Rattle.listing.specs.Answers.{listingAnswerOf, contentOf}
 use Rattle.listing.specs.declared.ListingAnswer.{ListingAnswer}
 use Rattle.listing.proofs.Fitted.{listed-map, fitted-whole}
 use Rattle.listing.proofs.Lengths.{listing-most}
-use Rattle.report.specs.Report.{reportOf, report, Reports, LimitLosesNothing}
+use Rattle.report.specs.Report.{reportOf, report, Reports, ProgramWrites, textLength, LimitLosesNothing}
 
 -- ---- the listing looks at the first count numbers and entries alone
 module _ (speeds torques entries : List ℕ) (m n : ℕ) where
@@ -93,3 +93,27 @@ enough-entries bytes c areBytes e =
 pub limit-loses-nothing : LimitLosesNothing
 unfolding report build
 limit-loses-nothing bytes areBytes = rw (beginning-decides bytes 32768 areBytes (omega arith))
+
+-- the bytes of the input that count
+take-within : (n : ℕ) (l : List ℕ) → take (min n (length l)) l ≡ take n l
+take-within zero l = ap (λ (k : ℕ). take k l) (zero-min (length l))
+take-within (suc n) [] = ap (λ (k : ℕ). take {A = ℕ} k []) (min-zero (suc n))
+take-within (suc n) (x ∷ xs) = ap (λ (k : ℕ). take k (x ∷ xs)) (suc-min-suc n (length xs)) ∙ ap (λ (r : List ℕ). x ∷ r) (take-within n xs)
+
+pub counted-bytes : (input : List ℕ) (n count : ℕ) → length input ≡ 32768 → count ≡ min n 32768 → take (count - 0) input ≡ take n input
+counted-bytes input n count l e = ap (λ (k : ℕ). take k input) (sub-zero count ∙ e ∙ ap (min n) (sym l)) ∙ take-within n input
+
+-- the program's own room is enough for every output
+pub program-writes : (bytes before after textBefore textAfter : List ℕ) (r : ListingAnswer) (n : ℕ) → length before ≡ 2048 → length textBefore ≡ 65536
+    → Reports bytes before after textBefore textAfter r → n ≡ textLength (listingAnswerOf r)
+    → ProgramWrites bytes before after textBefore textAfter n
+program-writes bytes before after textBefore textAfter r n b t h e =
+    let whole = rw b at (always-whole bytes before after textBefore textAfter r h t) in
+    let answer : n ≡ length (report bytes 2048) = rw whole at e in
+    let text = rw (whole, b) at (h .text) in
+    record {
+      answer = answer;
+      text = text;
+      entries = rw b at (h .entries);
+      within = rw (text, answer) (simp length-append (omega arith));
+    }
