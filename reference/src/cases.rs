@@ -9,7 +9,8 @@ use crate::questions::{questions, Question};
 use crate::random::Source;
 use crate::{faults, valid};
 
-pub const MOST_ENTRIES: usize = 2_048;
+pub use crate::listing::MOST_ENTRIES;
+
 pub const MOST_TEXT: usize = 65_536;
 
 pub enum Case {

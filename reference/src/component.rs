@@ -19,7 +19,7 @@ pub(crate) const TORQUE_RULE: AxisRule = AxisRule {
 };
 
 const SENSOR_LENGTH: usize = 18;
-const ROW_LENGTH: usize = 8;
+pub const ROW_LENGTH: usize = 8;
 
 /// The nine numbers of tag 6 or 7, in their order; document 01's letter of each.
 #[derive(Clone, Copy, PartialEq, Eq, Debug)]
@@ -42,6 +42,23 @@ pub struct Sensor {
     pub difference: u16,
     /// R, K.
     pub span: u16,
+}
+
+impl Sensor {
+    /// The nine numbers in their order: N, w, z, c, k, s, p, d, R.
+    pub fn numbers(&self) -> [u16; 9] {
+        [
+            self.nominal,
+            self.sensitivity,
+            self.zero,
+            self.calibration,
+            self.advancement,
+            self.parasitic,
+            self.share,
+            self.difference,
+            self.span,
+        ]
+    }
 }
 
 /// One row of tag 8, both torques in hundredths of Nm.
@@ -240,11 +257,28 @@ fn read_measured(cursor: Cursor<'_>, points: usize) -> Result<(Kind, Cursor<'_>)
     Ok((kind, cursor))
 }
 
+/// Where the body of the field with this tag starts, in data that reads and has it.
+pub fn body_start(data: &[u8], tag: u8) -> Option<usize> {
+    let mut cursor = Cursor { data, offset: 0 };
+    let mut start = None;
+    for due in 1..=tag {
+        let (field, behind) = cursor.field(due, |_| true).ok()?;
+        start = Some(field.start);
+        cursor = behind;
+    }
+    start
+}
+
+/// Where the row of this index starts in the data.
+pub fn row_place(rows_start: usize, index: usize) -> usize {
+    rows_start + ROW_LENGTH * index
+}
+
 fn axis_length(rule: &AxisRule, length: usize) -> bool {
     length.is_multiple_of(2) && rule.count.contains(&(length / 2))
 }
 
-/// "The first torque is at most the second less the first", for rising torques.
+/// Tag 5's last rule, which refusal 6 stands for: the torques are rising already.
 pub(crate) fn first_torque_allowed(torques: &[u16]) -> bool {
     torques[0] <= torques[1] - torques[0]
 }

@@ -34,6 +34,15 @@ impl Field {
         Field::new(tag, numbers.iter().flat_map(|n| n.to_be_bytes()).collect())
     }
 
+    /// Tag 8: input and output torque of each row.
+    pub fn of_rows(rows: &[[u32; 2]]) -> Field {
+        let bytes = rows
+            .iter()
+            .flatten()
+            .flat_map(|torque| torque.to_be_bytes());
+        Field::new(8, bytes.collect())
+    }
+
     /// How many bytes a number of the field has.
     pub fn width(&self) -> usize {
         match self.tag {
@@ -83,6 +92,14 @@ pub struct Data {
 }
 
 impl Data {
+    /// These fields, and nothing after them.
+    pub fn of(fields: Vec<Field>) -> Data {
+        Data {
+            fields,
+            rest: Vec::new(),
+        }
+    }
+
     pub fn bytes(&self) -> Vec<u8> {
         let mut bytes = Vec::new();
         for field in &self.fields {

@@ -1,5 +1,5 @@
-//! Document 01, "Accuracy over whole numbers": the exact entry, the exact loss
-//! at a point, and the check of the limits of demand 3.
+//! Document 01, "Accuracy over whole numbers": exact entries, exact losses at
+//! points, and the check of the limits of demand 3.
 //!
 //! All exact entries of one component stand over one denominator. A root that
 //! is not a whole number over it is held between two neighbouring ones.
@@ -94,7 +94,7 @@ impl ExactMap {
         }
     }
 
-    /// Is the entry not below its exact value and less than 2 hundredths above?
+    /// Does the entry keep its limits?
     pub fn check_entry(&self, speed_index: usize, torque_index: usize, entry: u32) -> Verdict {
         let mut sum = WeightedSum::over(self.denominator);
         sum.add(1, &self.entry(speed_index, torque_index));
@@ -145,8 +145,8 @@ struct Shares {
 }
 
 impl Shares {
-    /// On a grid line either cell gives the same sum; this takes the first cell
-    /// that reaches the point. Below the axis it is the first cell, continued.
+    /// The first cell that reaches the point; on a grid line the next one would
+    /// do as well. Below the axis it is the first cell, continued.
     fn of(axis: &[u16], unit: i128, point: u32) -> Shares {
         let point = i128::from(point);
         let position = |index: usize| unit * i128::from(axis[index]);
@@ -294,14 +294,14 @@ fn quotient_rounded_up(numerator: Wide, denominator: Wide) -> i64 {
     quotient(numerator - Wide::from(1), denominator).saturating_add(1)
 }
 
-/// Kind 1: the exact loss of the standard rule, all speeds alike.
+/// Kind 1: the standard losses, the same at every speed.
 fn standard_entries(component: &Component) -> (Wide, Vec<Bracket>) {
     let fraction = |torque: u16| loss::standard_loss(component.line, component.ratio, torque);
-    let (_, denominator) = fraction(component.torques[0]);
+    let denominator = fraction(component.torques[0]).denominator;
     let row: Vec<Bracket> = component
         .torques
         .iter()
-        .map(|torque| Wide::from(fraction(*torque).0))
+        .map(|torque| Wide::from(fraction(*torque).numerator))
         .map(|numerator| Bracket {
             low: numerator,
             high: numerator,

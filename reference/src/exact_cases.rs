@@ -110,12 +110,8 @@ impl MeasuredCase {
         fields.push(Field::of_numbers(6, &self.sensors[0]));
         fields.push(Field::of_numbers(7, &self.sensors[1]));
         let rows = [[0, 0], self.torques].repeat(SPEEDS.len());
-        let bytes = rows
-            .iter()
-            .flatten()
-            .flat_map(|torque| torque.to_be_bytes());
-        fields.push(Field::new(8, bytes.collect()));
-        bytes_of(fields)
+        fields.push(Field::of_rows(&rows));
+        Data::of(fields).bytes()
     }
 
     pub fn bounds(&self) -> Bounds {
@@ -137,7 +133,7 @@ impl MeasuredCase {
 impl StandardCase {
     /// Component data with this torque as the second of two, the first being 0.
     pub fn data(&self) -> Vec<u8> {
-        bytes_of(common_fields(1, self.line, self.ratio, self.torque))
+        Data::of(common_fields(1, self.line, self.ratio, self.torque)).bytes()
     }
 
     pub fn bounds(&self) -> Bounds {
@@ -165,14 +161,6 @@ fn common_fields(kind: u8, line: u8, ratio: u16, torque: u16) -> Vec<Field> {
         Field::of_numbers(4, &SPEEDS),
         Field::of_numbers(5, &[0, torque]),
     ]
-}
-
-fn bytes_of(fields: Vec<Field>) -> Vec<u8> {
-    let data = Data {
-        fields,
-        rest: Vec::new(),
-    };
-    data.bytes()
 }
 
 /// The bounds of the entry at the second torque; the build must accept the data.

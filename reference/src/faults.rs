@@ -124,7 +124,7 @@ fn set(data: &mut Data, tag: u8, index: usize, number: u32) {
     }
 }
 
-/// Measured data with one row at each limit of the rows and just beyond it: 7 input, 7 output, 8, 9, 10.
+/// Measured data with one row at each limit of the rows and just beyond it, where refusals 7 to 10 begin.
 pub fn row_faults(data: &Data, row: usize) -> Vec<Vec<u8>> {
     let torques = data.numbers(5);
     let ratio = data.numbers(3)[0];

@@ -1,8 +1,8 @@
 //! Second implementation of document 01, "Axle loss maps", written from the
 //! rule book alone. It renders the whole of it, for checks by running.
-//! Beside it: a generator of component data and questions, and what it takes to
-//! compare the answers with those of the proved libraries; and cases whose exact
-//! entries are printed.
+//! Beside it: traces of single numbers; a generator of component data and
+//! questions, and what it takes to compare the answers with those of the proved
+//! libraries; cases whose exact entries are printed; and the examples.
 
 pub mod component;
 pub mod exact;
@@ -13,13 +13,20 @@ pub mod map;
 pub mod refusal;
 pub mod wide;
 
+pub mod command;
+pub mod numerals;
+pub mod trace;
+
+pub mod bench_run;
 pub mod cases;
 pub mod data;
 pub mod exact_cases;
+pub mod examples;
 pub mod faults;
 pub mod lent_maps;
 pub mod questions;
 pub mod random;
 pub mod reply;
 pub mod stored;
+pub mod stored_files;
 pub mod valid;

@@ -7,10 +7,10 @@ use crate::refusal::Refusal;
 const HEADER: &str = "speed,torque,loss\n";
 
 /// As much of standard input as counts.
-const LONGEST_INPUT: usize = 32_768;
+pub const LONGEST_INPUT: usize = 32_768;
 
 /// Entries of the largest map.
-const MOST_ENTRIES: usize = 32 * 64;
+pub const MOST_ENTRIES: usize = 32 * 64;
 
 /// The listing of a map, written into a buffer of so many bytes.
 pub fn listing(map: &LentMap, room: usize) -> Result<Vec<u8>, Refusal> {
@@ -19,13 +19,24 @@ pub fn listing(map: &LentMap, room: usize) -> Result<Vec<u8>, Refusal> {
     for (index, entry) in map.entries.iter().enumerate() {
         let speed = map.speeds[index / map.torques.len()];
         let torque = map.torques[index % map.torques.len()];
-        let (whole, hundredths) = (entry / 100, entry % 100);
-        text.push_str(&format!("{speed},{torque},{whole}.{hundredths:02}\n"));
+        text.push_str(&line(speed, torque, *entry));
+        text.push('\n');
     }
     if room < text.len() {
         return Err(Refusal::at(11, text.len()));
     }
     Ok(text.into_bytes())
+}
+
+/// An entry's line, without its line feed.
+pub fn line(speed: u16, torque: u16, entry: u32) -> String {
+    let (whole, hundredths) = (entry / 100, entry % 100);
+    format!("{speed},{torque},{whole}.{hundredths:02}")
+}
+
+/// The number of an entry's line, counted from 1, the header's.
+pub fn line_number(entry_index: usize) -> usize {
+    entry_index + 2
 }
 
 /// What the map program writes for this standard input.
@@ -34,7 +45,5 @@ pub fn report(data: &[u8]) -> Vec<u8> {
     // The program lends itself room enough: 11 is never among its refusals.
     let written = map::build(counted, MOST_ENTRIES)
         .and_then(|built| listing(&LentMap::of(&built, built.entries.clone()), usize::MAX));
-    written.unwrap_or_else(|refusal| {
-        format!("refused {} at {}\n", refusal.number, refusal.place).into_bytes()
-    })
+    written.unwrap_or_else(|refusal| format!("{refusal}\n").into_bytes())
 }

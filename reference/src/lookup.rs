@@ -1,7 +1,7 @@
 //! Document 01, "Loss at a point and nearest point", with refusals 22, 20, 21.
 
 use crate::component::{first_torque_allowed, AxisRule, SPEED_RULE, TORQUE_RULE};
-use crate::map::{Map, LARGEST_ENTRY};
+use crate::map::{entry_index, Map, LARGEST_ENTRY};
 use crate::refusal::Refusal;
 
 /// Query speed is in tenths of rpm, an axis speed in rpm.
@@ -90,44 +90,103 @@ pub fn test_map(map: &LentMap) -> Result<TestedMap<'_>, Refusal> {
     })
 }
 
-/// A query number among its axis: the place of the lower neighbour, and the
-/// distances to both neighbours, the lower one negative below the axis.
-struct Neighbours {
-    lower: usize,
-    from_lower: i128,
-    to_upper: i128,
+/// A query number between two neighbours on its axis, in units of the query.
+#[derive(Clone, Copy, PartialEq, Eq, Debug)]
+pub struct Neighbours {
+    /// The lower one's place on the axis; the upper one is the next.
+    pub lower_index: usize,
+    pub lower: i128,
+    pub upper: i128,
+    pub query: i128,
 }
 
 impl Neighbours {
     /// The last cell whose lower end is not above the number, or the first.
-    fn of(axis: &[u16], unit: i128, number: i128) -> Neighbours {
+    fn of(axis: &[u16], unit: i128, query: i128) -> Neighbours {
         let last_cell = axis.len() - 2;
-        let lower = (0..=last_cell)
+        let at = |index: usize| i128::from(axis[index]) * unit;
+        let lower_index = (0..=last_cell)
             .rev()
-            .find(|place| i128::from(axis[*place]) * unit <= number)
+            .find(|index| at(*index) <= query)
             .unwrap_or(0);
         Neighbours {
-            lower,
-            from_lower: number - i128::from(axis[lower]) * unit,
-            to_upper: i128::from(axis[lower + 1]) * unit - number,
+            lower_index,
+            lower: at(lower_index),
+            upper: at(lower_index + 1),
+            query,
         }
     }
 
-    fn step(&self) -> i128 {
-        self.from_lower + self.to_upper
+    pub fn step(&self) -> i128 {
+        self.upper - self.lower
     }
 
-    /// The line through a value at each neighbour, times the step.
-    fn line(&self, at_lower: i128, at_upper: i128) -> i128 {
-        at_lower * self.to_upper + at_upper * self.from_lower
+    /// The shares of the lower and the upper one, times the step. The upper
+    /// one's is negative below the axis.
+    pub fn shares(&self) -> [i128; 2] {
+        [self.upper - self.query, self.query - self.lower]
     }
 }
 
-/// The loss in hundredths of Nm at a speed in tenths of rpm and a torque in
-/// hundredths of Nm.
-pub fn loss(map: &LentMap, speed: u32, torque: u32) -> Result<i128, Refusal> {
-    let map = test_map(map)?;
-    let (speed, torque) = (i128::from(speed), i128::from(torque));
+/// A corner of a cell: its places on the axes, its shares times the steps, and
+/// its entry in hundredths of Nm.
+#[derive(Clone, Copy, PartialEq, Eq, Debug)]
+pub struct Corner {
+    pub speed_index: usize,
+    pub torque_index: usize,
+    pub speed_share: i128,
+    pub torque_share: i128,
+    pub entry: u32,
+}
+
+impl Corner {
+    /// The weight, times both steps.
+    pub fn weight(&self) -> i128 {
+        self.speed_share * self.torque_share
+    }
+
+    pub fn weighted_entry(&self) -> i128 {
+        self.weight() * i128::from(self.entry)
+    }
+}
+
+/// The loss at a point with the numbers that lead to it.
+#[derive(Clone, Copy, PartialEq, Eq, Debug)]
+pub struct PointSteps {
+    pub speed: Neighbours,
+    pub torque: Neighbours,
+    /// Both torques at the lower speed, then both at the upper.
+    pub corners: [Corner; 4],
+    /// The sum of the weighted entries, in hundredths of Nm.
+    pub numerator: i128,
+    pub denominator: i128,
+}
+
+impl PointSteps {
+    /// The loss in hundredths of Nm.
+    pub fn answer(&self) -> i128 {
+        quotient_rounded_up(self.numerator, self.denominator)
+    }
+}
+
+/// The four corners around a point. Linear in torque and then in speed is the
+/// sum of their entries, each by its share in torque times its share in speed.
+fn corners(map: &TestedMap, speed: &Neighbours, torque: &Neighbours) -> [Corner; 4] {
+    [(0, 0), (0, 1), (1, 0), (1, 1)].map(|(upper_speed, upper_torque)| {
+        let speed_index = speed.lower_index + upper_speed;
+        let torque_index = torque.lower_index + upper_torque;
+        Corner {
+            speed_index,
+            torque_index,
+            speed_share: speed.shares()[upper_speed],
+            torque_share: torque.shares()[upper_torque],
+            entry: map.entries[entry_index(map.torques.len(), speed_index, torque_index)],
+        }
+    })
+}
+
+/// Refusals 20 and 21 of a query.
+fn test_query(map: &TestedMap, speed: i128, torque: i128) -> Result<(), Refusal> {
     let first_speed = SPEED_UNIT * i128::from(map.speeds[0]);
     let last_speed = SPEED_UNIT * i128::from(map.speeds[map.speeds.len() - 1]);
     if speed < first_speed || speed > last_speed {
@@ -137,18 +196,34 @@ pub fn loss(map: &LentMap, speed: u32, torque: u32) -> Result<i128, Refusal> {
     if torque > last_torque {
         return Err(Refusal::at(21, 0));
     }
-    let speed = Neighbours::of(map.speeds, SPEED_UNIT, speed);
-    let torque = Neighbours::of(map.torques, TORQUE_UNIT, torque);
-    let along = |row: usize| {
-        let start = row * map.torques.len() + torque.lower;
-        let corner = |place: usize| i128::from(map.entries[place]);
-        torque.line(corner(start), corner(start + 1))
-    };
-    let numerator = speed.line(along(speed.lower), along(speed.lower + 1));
-    Ok(quotient_rounded_up(numerator, torque.step() * speed.step()))
+    Ok(())
 }
 
-/// Towards plus infinity, also under zero; the denominator is above zero.
+/// The steps of the loss at a speed in tenths of rpm and a torque in hundredths
+/// of Nm.
+pub fn point_steps(map: &LentMap, speed: u32, torque: u32) -> Result<PointSteps, Refusal> {
+    let map = test_map(map)?;
+    let (speed, torque) = (i128::from(speed), i128::from(torque));
+    test_query(&map, speed, torque)?;
+    let speed = Neighbours::of(map.speeds, SPEED_UNIT, speed);
+    let torque = Neighbours::of(map.torques, TORQUE_UNIT, torque);
+    let corners = corners(&map, &speed, &torque);
+    Ok(PointSteps {
+        speed,
+        torque,
+        corners,
+        numerator: corners.iter().map(Corner::weighted_entry).sum(),
+        denominator: speed.step() * torque.step(),
+    })
+}
+
+/// The loss in hundredths of Nm at a speed in tenths of rpm and a torque in
+/// hundredths of Nm.
+pub fn loss(map: &LentMap, speed: u32, torque: u32) -> Result<i128, Refusal> {
+    point_steps(map, speed, torque).map(|steps| steps.answer())
+}
+
+/// A negative quotient comes nearer to zero; the denominator is above zero.
 fn quotient_rounded_up(numerator: i128, denominator: i128) -> i128 {
     -(-numerator).div_euclid(denominator)
 }

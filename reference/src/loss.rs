@@ -2,50 +2,101 @@
 
 use crate::component::{Row, Sensor};
 
-/// One line of the table: efficiency in percent, the other two in Nm.
-struct Line {
+/// A fraction of whole numbers as its rule makes it, not reduced.
+#[derive(Clone, Copy, PartialEq, Eq, Debug)]
+pub struct Fraction {
+    pub numerator: u128,
+    pub denominator: u128,
+}
+
+impl Fraction {
+    pub fn rounded_up(self) -> u128 {
+        self.numerator.div_ceil(self.denominator)
+    }
+}
+
+/// One line of the table: efficiency e in percent, T0 and T1 in Nm.
+pub struct Line {
+    pub name: &'static str,
+    pub efficiency: u128,
+    pub drag_constant: u128,
+    pub drag_per_ratio: u128,
+}
+
+const fn line(
+    name: &'static str,
     efficiency: u128,
     drag_constant: u128,
     drag_per_ratio: u128,
-}
-
-const fn line(efficiency: u128, drag_constant: u128, drag_per_ratio: u128) -> Line {
+) -> Line {
     Line {
+        name,
         efficiency,
         drag_constant,
         drag_per_ratio,
     }
 }
 
-/// SR, SRT, SP, HR, HRT.
 const LINES: [Line; 5] = [
-    line(98, 70, 20),
-    line(96, 80, 20),
-    line(96, 80, 20),
-    line(97, 70, 20),
-    line(95, 90, 20),
+    line("SR", 98, 70, 20),
+    line("SRT", 96, 80, 20),
+    line("SP", 96, 80, 20),
+    line("HR", 97, 70, 20),
+    line("HRT", 95, 90, 20),
 ];
 
-/// The exact standard loss in hundredths of Nm, as numerator and denominator.
+/// The table's line of this number, 1 to 5.
+pub fn line_of(number: u8) -> &'static Line {
+    &LINES[usize::from(number) - 1]
+}
+
+/// The exact standard loss in hundredths of Nm.
 /// The denominator is the same for all torques.
-pub(crate) fn standard_loss(line: u8, ratio: u16, torque: u16) -> (u128, u128) {
-    let line = &LINES[usize::from(line) - 1];
+pub fn standard_loss(line: u8, ratio: u16, torque: u16) -> Fraction {
+    let line = line_of(line);
     let (ratio, torque) = (u128::from(ratio), u128::from(torque));
     let efficiency = line.efficiency;
     // Ratio in thousandths and loss in hundredths leave one tenth.
     let tenths = 1_000 * line.drag_constant + line.drag_per_ratio * ratio;
-    let numerator = tenths * efficiency + 1_000 * torque * (100 - efficiency);
-    (numerator, 10 * efficiency)
+    Fraction {
+        numerator: tenths * efficiency + 1_000 * torque * (100 - efficiency),
+        denominator: 10 * efficiency,
+    }
 }
 
 /// The entry of the standard rule, in hundredths of Nm.
 pub fn standard_entry(line: u8, ratio: u16, torque: u16) -> u128 {
-    let (numerator, denominator) = standard_loss(line, ratio, torque);
-    numerator.div_ceil(denominator)
+    standard_loss(line, ratio, torque).rounded_up()
 }
 
-/// The parts a, b, g and h in grains, each rounded up; torque in hundredths.
-pub fn sensor_parts(sensor: &Sensor, torque: u32) -> [u128; 4] {
+/// One sensor's uncertainty with the numbers that lead to it, in grains.
+#[derive(Clone, Copy, PartialEq, Eq, Debug)]
+pub struct SensorSteps {
+    /// a, b, g and h before they are rounded up.
+    pub unrounded: [Fraction; 4],
+    /// a, b, g and h.
+    pub parts: [u128; 4],
+    /// What 3 U U must reach.
+    pub sum_of_squares: u128,
+    /// U.
+    pub uncertainty: u128,
+}
+
+/// The steps of a sensor at a torque in hundredths of Nm.
+pub fn sensor_steps(sensor: &Sensor, torque: u32) -> SensorSteps {
+    let unrounded = unrounded_parts(sensor, torque);
+    let parts = unrounded.map(Fraction::rounded_up);
+    let sum_of_squares = sum_of_part_squares(parts);
+    SensorSteps {
+        unrounded,
+        parts,
+        sum_of_squares,
+        uncertainty: least_uncertainty(sum_of_squares),
+    }
+}
+
+/// The parts a, b, g and h in grains, not rounded; torque in hundredths.
+fn unrounded_parts(sensor: &Sensor, torque: u32) -> [Fraction; 4] {
     let torque = u128::from(torque);
     let nominal = u128::from(sensor.nominal);
     let difference = u128::from(sensor.difference);
@@ -54,41 +105,134 @@ pub fn sensor_parts(sensor: &Sensor, torque: u32) -> [u128; 4] {
     let zero = u128::from(sensor.zero) * difference * nominal;
     let calibration = u128::from(sensor.calibration) * nominal * 10;
     let parasitic = u128::from(sensor.parasitic) * u128::from(sensor.share) * nominal;
+    let part = |numerator, denominator| Fraction {
+        numerator,
+        denominator,
+    };
     [
-        sensitivity.div_ceil(100_000 * span),
-        zero.div_ceil(1_000 * span),
-        calibration.div_ceil(u128::from(sensor.advancement)),
-        parasitic.div_ceil(100_000),
+        part(sensitivity, 100_000 * span),
+        part(zero, 1_000 * span),
+        part(calibration, u128::from(sensor.advancement)),
+        part(parasitic, 100_000),
     ]
 }
 
-/// U: the least whole number with 3 U U at least 4 (aa + bb + 3gg + hh).
-pub fn sensor_uncertainty(parts: [u128; 4]) -> u128 {
+/// The parts a, b, g and h in grains, each rounded up; torque in hundredths.
+pub fn sensor_parts(sensor: &Sensor, torque: u32) -> [u128; 4] {
+    unrounded_parts(sensor, torque).map(Fraction::rounded_up)
+}
+
+/// 4 (aa + bb + 3gg + hh).
+fn sum_of_part_squares(parts: [u128; 4]) -> u128 {
     let [a, b, g, h] = parts;
-    let sum = a * a + b * b + 3 * g * g + h * h;
+    4 * (a * a + b * b + 3 * g * g + h * h)
+}
+
+/// The smallest U whose square, three times, reaches this.
+fn least_uncertainty(sum_of_squares: u128) -> u128 {
     // U U is whole, so it may as well reach the next whole number.
-    root_rounded_up((4 * sum).div_ceil(3))
+    root_rounded_up(sum_of_squares.div_ceil(3))
+}
+
+/// U of a sensor with the parts a, b, g and h.
+pub fn sensor_uncertainty(parts: [u128; 4]) -> u128 {
+    least_uncertainty(sum_of_part_squares(parts))
+}
+
+/// V in grains, before it is rounded up; from U of the input sensor.
+fn uncertainty_at_wheel(input: u128, ratio: u16) -> Fraction {
+    Fraction {
+        numerator: input * u128::from(ratio),
+        denominator: 1_000,
+    }
+}
+
+/// The uncertainty of a loss with the numbers that lead to it, in grains.
+#[derive(Clone, Copy, PartialEq, Eq, Debug)]
+pub struct UncertaintySteps {
+    /// V before it is rounded up. W is U of the output sensor.
+    pub at_wheel: Fraction,
+    /// VV + WW.
+    pub sum_of_squares: u128,
+    /// The loss uncertainty.
+    pub uncertainty: u128,
+}
+
+/// The steps from U of both sensors to the loss uncertainty.
+fn uncertainty_steps(input: u128, ratio: u16, output: u128) -> UncertaintySteps {
+    let at_wheel = uncertainty_at_wheel(input, ratio);
+    let rounded = at_wheel.rounded_up();
+    let sum_of_squares = rounded * rounded + output * output;
+    UncertaintySteps {
+        at_wheel,
+        sum_of_squares,
+        uncertainty: root_rounded_up(sum_of_squares),
+    }
 }
 
 /// The loss uncertainty in grains, from U of both sensors.
 pub fn loss_uncertainty(input: u128, ratio: u16, output: u128) -> u128 {
-    let at_wheel = (input * u128::from(ratio)).div_ceil(1_000);
-    root_rounded_up(at_wheel * at_wheel + output * output)
+    uncertainty_steps(input, ratio, output).uncertainty
+}
+
+/// One measured entry with the numbers that lead to it.
+#[derive(Clone, Copy, PartialEq, Eq, Debug)]
+pub struct MeasuredSteps {
+    pub input: SensorSteps,
+    pub output: SensorSteps,
+    pub loss_uncertainty: UncertaintySteps,
+    /// The measured loss in thousandths of a hundredth of Nm.
+    pub loss: u128,
+    /// The allowance, in `PARTS` of a hundredth of Nm.
+    pub allowance: u128,
+    /// How far the loss uncertainty is above the allowance, in the same parts.
+    pub above_allowance: u128,
+    /// The entry in hundredths of Nm, before it is rounded up.
+    pub entry: Fraction,
+}
+
+/// Parts of a hundredth of Nm in which the measured loss, a twentieth of it and
+/// a grain are whole.
+pub const PARTS: u128 = 20_000;
+
+/// A grain is the hundredth part of a hundredth of Nm.
+pub const PARTS_OF_A_GRAIN: u128 = PARTS / 100;
+
+/// 1 Nm, in the same parts.
+pub const LEAST_ALLOWANCE: u128 = 100 * PARTS;
+
+/// The steps of a measured row's entry, or None when its loss is under zero.
+pub fn measured_steps(
+    ratio: u16,
+    input: &Sensor,
+    output: &Sensor,
+    row: &Row,
+) -> Option<MeasuredSteps> {
+    let loss = measured_loss(ratio, row)?;
+    let input = sensor_steps(input, row.input);
+    let output = sensor_steps(output, row.output);
+    let loss_uncertainty = uncertainty_steps(input.uncertainty, ratio, output.uncertainty);
+    let allowance = allowance(loss);
+    let in_parts = PARTS_OF_A_GRAIN * loss_uncertainty.uncertainty;
+    let above_allowance = in_parts.saturating_sub(allowance);
+    Some(MeasuredSteps {
+        input,
+        output,
+        loss_uncertainty,
+        loss,
+        allowance,
+        above_allowance,
+        entry: Fraction {
+            numerator: PARTS / 1_000 * loss + above_allowance,
+            denominator: PARTS,
+        },
+    })
 }
 
 /// The entry of the measured rule in hundredths of Nm, not capped, or None
 /// when the measured loss is under zero.
 pub fn measured_entry(ratio: u16, input: &Sensor, output: &Sensor, row: &Row) -> Option<u128> {
-    let loss = measured_loss(ratio, row)?;
-    let uncertainty = loss_uncertainty(
-        sensor_uncertainty(sensor_parts(input, row.input)),
-        ratio,
-        sensor_uncertainty(sensor_parts(output, row.output)),
-    );
-    // In 20,000ths of a hundredth of Nm, where loss, a twentieth of it and a
-    // grain are whole: a grain is 200 of them.
-    let above_allowance = (200 * uncertainty).saturating_sub(allowance(loss));
-    Some((20 * loss + above_allowance).div_ceil(20_000))
+    measured_steps(ratio, input, output, row).map(|steps| steps.entry.rounded_up())
 }
 
 /// Measured loss in thousandths of a hundredth of Nm, None under zero.
@@ -97,13 +241,18 @@ pub(crate) fn measured_loss(ratio: u16, row: &Row) -> Option<u128> {
     input_at_wheel.checked_sub(1_000 * u128::from(row.output))
 }
 
-/// The larger of 5 % of the loss and 1 Nm, in 20,000ths of a hundredth of Nm.
-/// The loss comes in thousandths, so 5 % of it is the same number.
-pub(crate) fn allowance(loss: u128) -> u128 {
-    loss.max(100 * 20_000)
+/// 5 % of a loss, in `PARTS`. The loss comes in thousandths of a hundredth of
+/// Nm, and a part is a twentieth of one: the number stays the same.
+pub fn five_percent(loss: u128) -> u128 {
+    loss
 }
 
-/// The least whole number whose square is at least this.
+/// The allowance of a loss in thousandths of a hundredth of Nm, in `PARTS`.
+pub(crate) fn allowance(loss: u128) -> u128 {
+    five_percent(loss).max(LEAST_ALLOWANCE)
+}
+
+/// The root of a whole number, rounded up to a whole number.
 fn root_rounded_up(square: u128) -> u128 {
     let root = square.isqrt();
     if root * root < square {

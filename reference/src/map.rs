@@ -1,7 +1,7 @@
 //! Document 01, the build: "Standard loss", "Measured loss" and the order of
 //! "Refusals" after the fields: 12, then 11, then the rows 7, 7, 8, 9, 10.
 
-use crate::component::{self, Component, Kind, Row, Sensor};
+use crate::component::{self, row_place, Component, Kind, Row, Sensor};
 use crate::loss;
 use crate::refusal::Refusal;
 
@@ -17,6 +17,11 @@ pub struct Map {
     pub speeds: Vec<u16>,
     pub torques: Vec<u16>,
     pub entries: Vec<u32>,
+}
+
+/// The place of an entry, and of its row, among those of a map with so many torques.
+pub fn entry_index(torque_count: usize, speed_index: usize, torque_index: usize) -> usize {
+    speed_index * torque_count + torque_index
 }
 
 /// Builds the map of the data into so many lent entries.
@@ -64,7 +69,7 @@ fn measured_entries(
 ) -> Result<Vec<u32>, Refusal> {
     let mut entries = Vec::with_capacity(rows.len());
     for (index, row) in rows.iter().enumerate() {
-        let place = rows_start + 8 * index;
+        let place = row_place(rows_start, index);
         let axis_torque = component.torques[index % component.torques.len()];
         test_row(row, input, output, axis_torque, place)?;
         let entry = loss::measured_entry(component.ratio, input, output, row)

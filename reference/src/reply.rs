@@ -1,7 +1,7 @@
 //! What a case is answered by the rules, as the text that `vectors` writes; and a tally of what was seen.
 
 use crate::cases::Case;
-use crate::component::{self, Component, Kind, Sensor};
+use crate::component::{self, row_place, Component, Kind};
 use crate::exact::{ExactMap, Verdict};
 use crate::listing::{listing, report};
 use crate::lookup::{self, LentMap};
@@ -51,7 +51,7 @@ impl Seen {
         if places.len() < 1_000 {
             places.insert(refusal.place);
         }
-        format!("refused {} at {}\n", refusal.number, refusal.place)
+        format!("{refusal}\n")
     }
 }
 
@@ -173,21 +173,6 @@ fn numbers(name: &str, numbers: &[u16]) -> String {
     text
 }
 
-fn sensor_numbers(name: &str, sensor: &Sensor) -> String {
-    let in_order = [
-        sensor.nominal,
-        sensor.sensitivity,
-        sensor.zero,
-        sensor.calibration,
-        sensor.advancement,
-        sensor.parasitic,
-        sensor.share,
-        sensor.difference,
-        sensor.span,
-    ];
-    numbers(name, &in_order)
-}
-
 /// Component data read into numbers, as one line.
 pub fn component_line(component: &Component) -> String {
     let kind = match component.kind {
@@ -207,9 +192,9 @@ pub fn component_line(component: &Component) -> String {
         rows_start,
     } = &component.kind
     {
-        line += &sensor_numbers(" input", input);
-        line += &sensor_numbers(" output", output);
-        let end = rows_start + 8 * rows.len();
+        line += &numbers(" input", &input.numbers());
+        line += &numbers(" output", &output.numbers());
+        let end = row_place(*rows_start, rows.len());
         let _ = write!(line, " rows {rows_start} to {end}");
     }
     line + "\n"

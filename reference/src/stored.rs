@@ -1,12 +1,18 @@
-//! The cases that are stored for `vectors`, with their answers, and the text of a tally.
+//! The cases that are stored for `vectors`, with their answers, the stored run of the map program, and the text of a tally.
 
 use crate::cases::{by_chance, systematic, Case, MOST_ENTRIES, MOST_TEXT};
+use crate::listing::report;
 use crate::questions::Question;
+use crate::random::Source;
 use crate::reply::{reply, Excess, Seen};
+use crate::valid;
 use std::fmt;
 
 const SEED: u64 = 20_172_400;
 const CASES_BY_CHANCE: u64 = 2_500;
+
+/// Chosen among many: its data is accepted, no number of a sensor is 0, and most entries differ from each other.
+const MAP_PROGRAM_CASE: u64 = 10_415;
 
 /// Every refusal of the table.
 pub const REFUSALS: [u8; 15] = [1, 2, 3, 4, 5, 6, 7, 8, 9, 10, 11, 12, 20, 21, 22];
@@ -77,6 +83,14 @@ pub fn input_and_output(cases: &[Case], seen: &mut Seen) -> (Vec<u8>, Vec<u8>) {
         output.extend(reply(case, seen));
     }
     (input, output)
+}
+
+/// The stored run of the map program: the largest measured data over the whole ranges, and what is written for it.
+pub fn map_program_run() -> (Vec<u8>, Vec<u8>) {
+    let mut source = Source::new(SEED, MAP_PROGRAM_CASE);
+    let data = valid::data_of(&mut source, 2, 32, 64).bytes();
+    let written = report(&data);
+    (data, written)
 }
 
 /// What the stored cases must hold and do not.

@@ -40,7 +40,7 @@ pub fn speeds(source: &mut Source, count: usize) -> Vec<u16> {
     rising(source, count, 1, 3_000)
 }
 
-/// The first torque is at most the first step, and often just that, or 0.
+/// The first torque does not exceed the first step; often it is equal to it, or 0.
 pub fn torques(source: &mut Source, count: usize) -> Vec<u16> {
     let mut torques = rising(source, count, 0, 50_000);
     torques[0] = source.with_ends(0, u64::from(torques[1] / 2)) as u16;
@@ -114,14 +114,14 @@ fn row_fields(source: &mut Source, ratio: u64, speeds: usize, torques: &[u16]) -
     let mut output = sensor(source);
     input[0] = nominal(source, rows.iter().map(|row| row.0).max().unwrap_or(0));
     output[0] = nominal(source, rows.iter().map(|row| row.1).max().unwrap_or(0));
-    let bytes = rows
+    let rows: Vec<[u32; 2]> = rows
         .iter()
-        .flat_map(|(input, output)| [*input as u32, *output as u32])
-        .flat_map(|torque| torque.to_be_bytes());
+        .map(|(input, output)| [*input as u32, *output as u32])
+        .collect();
     vec![
         Field::of_numbers(6, &input),
         Field::of_numbers(7, &output),
-        Field::new(8, bytes.collect()),
+        Field::of_rows(&rows),
     ]
 }
 
@@ -142,10 +142,7 @@ pub fn data_of(source: &mut Source, kind: u8, speed_count: usize, torque_count: 
     if kind == 2 {
         fields.extend(row_fields(source, ratio, speed_count, &torques));
     }
-    Data {
-        fields,
-        rest: Vec::new(),
-    }
+    Data::of(fields)
 }
 
 /// Data of either kind and any size, measured more often than standard.

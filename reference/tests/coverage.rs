@@ -2,9 +2,11 @@
 
 use reference::cases::Case;
 use reference::component::{self, Component, Kind, Sensor};
+use reference::loss::measured_steps;
 use reference::map;
 use reference::reply::{reply, Seen};
-use reference::stored::{missing, outside, stored_cases};
+use reference::stored::{map_program_run, missing, outside, stored_cases};
+use std::collections::BTreeSet;
 
 /// The accepted component data among the stored cases.
 fn accepted() -> Vec<Component> {
@@ -147,4 +149,32 @@ fn every_refusal_occurs_and_no_answer_is_outside_the_limits() {
     }
     assert_eq!(missing(&seen), Vec::<String>::new());
     assert_eq!(outside(&seen), 0);
+}
+
+#[test]
+fn the_map_program_is_given_the_largest_data() {
+    let (data, written) = map_program_run();
+    assert_eq!(data.len(), 16_640);
+    let built = map::build(&data, 2_048).unwrap();
+    let component = component::read(&data).unwrap();
+    let Kind::Measured {
+        input,
+        output,
+        rows,
+        ..
+    } = &component.kind
+    else {
+        panic!("measured data");
+    };
+    assert_eq!((built.entries.len(), rows.len()), (2_048, 2_048));
+    assert!(!input.numbers().contains(&0) && !output.numbers().contains(&0));
+    let above = rows
+        .iter()
+        .filter_map(|row| measured_steps(component.ratio, input, output, row))
+        .filter(|steps| steps.above_allowance > 0)
+        .count();
+    let different: BTreeSet<&u32> = built.entries.iter().collect();
+    assert_eq!((above, different.len()), (1_779, 1_817));
+    assert!(written.starts_with(b"speed,torque,loss\n"));
+    assert_eq!(written.iter().filter(|byte| **byte == b'\n').count(), 2_049);
 }

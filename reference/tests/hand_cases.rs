@@ -9,7 +9,7 @@ use reference::reply::component_line;
 use reference::stored::{question_of, written_by_hand};
 
 fn refused(refusal: Refusal) -> String {
-    format!("refused {} at {}\n", refusal.number, refusal.place)
+    format!("{refusal}\n")
 }
 
 fn question_answer(bytes: &[u8]) -> String {

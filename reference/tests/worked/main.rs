@@ -5,3 +5,4 @@ mod queries;
 mod reckoned;
 mod refusals;
 mod support;
+mod traces;

@@ -122,7 +122,7 @@ pub fn example() -> Numbers {
     Numbers::standard(1, 3_000, &[100, 200], &[0, 1_000])
 }
 
-/// "c 100 and k 1,000 at both sensors", one row for 3,000 Nm with this input
+/// The sensors of "Reckoned by hand", one row for 3,000 Nm with this input
 /// torque and a harmless one for 6,000 Nm.
 pub fn calibrated(input: u32) -> Numbers {
     let sensor = |nominal| [nominal, 0, 0, 100, 1_000, 0, 0, 0, 10];

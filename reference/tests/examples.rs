@@ -1,0 +1,248 @@
+//! The example files have what they were made for, and each number of the bench run's map has its trace.
+
+use reference::component::{self, Component, Kind, Row, Sensor};
+use reference::examples::files;
+use reference::listing::report;
+use reference::lookup::{loss, LentMap};
+use reference::loss::{measured_steps, MeasuredSteps, LEAST_ALLOWANCE};
+use reference::map::{self, Map};
+use reference::trace;
+
+fn file(name: &str) -> Vec<u8> {
+    let found = files().into_iter().find(|file| file.name == name);
+    found.expect("a file of this name").content
+}
+
+fn text(name: &str) -> String {
+    String::from_utf8(file(name)).unwrap()
+}
+
+fn bench_run() -> (Component, Map) {
+    let data = file("bench-run.axle");
+    let built = map::build(&data, 2_048).unwrap();
+    (component::read(&data).unwrap(), built)
+}
+
+fn measured(component: &Component) -> (Sensor, Sensor, Vec<Row>) {
+    match &component.kind {
+        Kind::Measured {
+            input,
+            output,
+            rows,
+            ..
+        } => (*input, *output, rows.clone()),
+        Kind::Standard => panic!("the bench run is measured"),
+    }
+}
+
+/// The steps of each entry of the bench run.
+fn all_steps() -> Vec<MeasuredSteps> {
+    let (component, _) = bench_run();
+    let (input, output, rows) = measured(&component);
+    let steps = |row| measured_steps(component.ratio, &input, &output, row).unwrap();
+    rows.iter().map(steps).collect()
+}
+
+#[test]
+fn each_data_file_has_its_answer() {
+    let names: Vec<String> = files().into_iter().map(|file| file.name).collect();
+    let expected = [
+        "standard.axle",
+        "standard.csv",
+        "measured.axle",
+        "measured.csv",
+        "refused.axle",
+        "refused.refusal",
+        "bench-run.axle",
+        "bench-run.csv",
+        "cut-short.axle",
+        "cut-short.refusal",
+    ];
+    assert_eq!(names, expected);
+    for pair in files().chunks(2) {
+        assert_eq!(report(&pair[0].content), pair[1].content);
+    }
+}
+
+const STANDARD: &str = "01000101020001010300020BB8040004006400C8050004000003E8";
+
+/// The measured example before its rows.
+const MEASURED: &str = "01000102020001010300020BB8040004006400C805000403E80BB8\
+    0600122710000000000064\
+    03E8000000000000000A\
+    0700129C40000000000064\
+    03E8000000000000000A\
+    080020";
+
+fn digits(bytes: &[u8]) -> String {
+    bytes.iter().map(|byte| format!("{byte:02X}")).collect()
+}
+
+#[test]
+fn the_small_files_byte_for_byte() {
+    assert_eq!(digits(&file("standard.axle")), STANDARD);
+    let rows = |row: &str| format!("{MEASURED}{row}{row}");
+    let accepted = rows("000084D0000186A00001ADB0000493E0");
+    assert_eq!(digits(&file("measured.axle")), accepted);
+    let refused = rows("000084D0000186A00001869F000493E0");
+    assert_eq!(digits(&file("refused.axle")), refused);
+    let listing =
+        "speed,torque,loss\n100,1000,29.00\n100,3000,300.00\n200,1000,29.00\n200,3000,300.00\n";
+    assert_eq!(text("measured.csv"), listing);
+    assert_eq!(text("refused.refusal"), "refused 9 at 80\n");
+}
+
+#[test]
+fn the_bench_run_has_the_prescribed_grid() {
+    let (component, _) = bench_run();
+    let speeds: Vec<u16> = (1..=13).map(|step| 50 * step).collect();
+    assert_eq!(component.speeds, speeds);
+    let prescribed = [
+        250, 500, 750, 1_000, 1_500, 2_000, 3_000, 4_000, 5_000, 6_000, 7_000, 8_000, 9_000,
+        10_000, 12_000, 14_000, 16_000, 18_000, 20_000,
+    ];
+    let torques = &component.torques;
+    assert!(prescribed.iter().all(|torque| torques.contains(torque)));
+    assert_eq!(torques.len(), 21);
+    assert!(torques.contains(&1_250) && torques.contains(&1_750));
+}
+
+#[test]
+fn every_influence_of_both_sensors_is_at_work() {
+    let (component, _) = bench_run();
+    let (input, output, _) = measured(&component);
+    for sensor in [input, output] {
+        assert!(!sensor.numbers().contains(&0));
+    }
+    for steps in all_steps() {
+        for part in steps.input.unrounded.iter().chain(&steps.output.unrounded) {
+            assert!(!part.numerator.is_multiple_of(part.denominator));
+        }
+    }
+}
+
+#[test]
+fn the_uncertainty_is_above_the_allowance_in_half_of_the_entries() {
+    let steps = all_steps();
+    let above = steps.iter().filter(|steps| steps.above_allowance > 0);
+    assert_eq!((above.count(), steps.len()), (146, 273));
+    // The axle loses more than 20 Nm everywhere: 1 Nm is never the allowance.
+    assert!(steps.iter().all(|steps| steps.allowance > LEAST_ALLOWANCE));
+}
+
+#[test]
+fn the_output_torque_strays_as_on_a_bench() {
+    let (component, _) = bench_run();
+    let (_, _, rows) = measured(&component);
+    let torques = &component.torques;
+    let mut strays: Vec<i64> = rows
+        .iter()
+        .enumerate()
+        .map(|(index, row)| {
+            let aim = 100 * u32::from(torques[index % torques.len()]);
+            i64::from(row.output) - i64::from(aim)
+        })
+        .collect();
+    strays.sort_unstable();
+    let (lowest, highest) = (strays[0], strays[strays.len() - 1]);
+    assert!((-500..-400).contains(&lowest) && (401..=500).contains(&highest));
+    strays.dedup();
+    assert!(strays.len() > 200, "{} different strays", strays.len());
+}
+
+#[test]
+fn the_losses_are_those_of_an_axle() {
+    let (component, _) = bench_run();
+    let steps = all_steps();
+    let count = component.torques.len();
+    // Thousandths of a hundredth of Nm.
+    let loss = |speed: usize, torque: usize| steps[speed * count + torque].loss;
+    for speed in 0..component.speeds.len() {
+        for torque in 1..count {
+            assert!(loss(speed, torque) > loss(speed, torque - 1));
+        }
+        let share = loss(speed, count - 1) / 2_000_000;
+        assert!(
+            (20..30).contains(&share),
+            "{share} thousandths of 20,000 Nm"
+        );
+    }
+    for speed in 1..component.speeds.len() {
+        assert!(loss(speed, 0) > loss(speed - 1, 0), "drag");
+    }
+}
+
+#[test]
+fn the_short_file_ends_amid_a_row() {
+    let (whole, short) = (file("bench-run.axle"), file("cut-short.axle"));
+    assert_eq!((whole.len(), short.len()), (2_316, 1_024));
+    assert!(whole.starts_with(&short));
+    let Kind::Measured { rows_start, .. } = component::read(&whole).unwrap().kind else {
+        panic!("the bench run is measured");
+    };
+    assert!(!(short.len() - rows_start).is_multiple_of(8));
+    assert_eq!(text("cut-short.refusal"), "refused 1 at 129\n");
+}
+
+/// The last line of a trace, without its name.
+fn last_line(trace: &str) -> &str {
+    trace.lines().last().unwrap()[18..].trim()
+}
+
+#[test]
+fn each_entry_of_the_bench_run_has_its_trace() {
+    let data = file("bench-run.axle");
+    let (component, _) = bench_run();
+    let listing = text("bench-run.csv");
+    let mut lines = listing.lines().enumerate().skip(1);
+    for speed in &component.speeds {
+        for torque in &component.torques {
+            let text = trace::entry(&data, u32::from(*speed), u32::from(*torque)).unwrap();
+            let (index, line) = lines.next().unwrap();
+            assert_eq!(last_line(&text), format!("line {}: {line}", index + 1));
+            let widest = text.lines().map(|line| line.chars().count()).max();
+            assert!(widest.unwrap() <= 110);
+        }
+    }
+    assert_eq!(lines.next(), None);
+}
+
+/// The number of hundredths that the last line names.
+fn answer(trace: &str) -> i128 {
+    let (number, _) = last_line(trace).split_once(" hundredths").unwrap();
+    number.replace(',', "").parse().unwrap()
+}
+
+#[test]
+fn points_of_the_bench_run() {
+    let data = file("bench-run.axle");
+    let (_, built) = bench_run();
+    let lent = LentMap::of(&built, built.entries.clone());
+    // At the ends, on grid lines, beside them, in cells, and below the first torque.
+    for speed in [500, 501, 999, 1_000, 1_001, 3_333, 6_499, 6_500] {
+        for torque in [
+            0, 1, 12_345, 24_999, 25_000, 25_001, 177_777, 1_999_999, 2_000_000,
+        ] {
+            let text = trace::point(&data, speed, torque).unwrap();
+            assert_eq!(Ok(answer(&text)), loss(&lent, speed, torque));
+            assert_eq!(text.contains("\ncontinued "), torque < 25_000);
+        }
+    }
+}
+
+#[test]
+fn points_with_negative_answers() {
+    let data = file("measured.axle");
+    let built = map::build(&data, 4).unwrap();
+    let lent = LentMap::of(&built, built.entries.clone());
+    let mut negative = 0;
+    for speed in [1_000, 1_234, 2_000] {
+        for torque in (0..=100_000).step_by(4_999) {
+            let text = trace::point(&data, speed, torque).unwrap();
+            assert_eq!(Ok(answer(&text)), loss(&lent, speed, torque));
+            negative += usize::from(answer(&text) < 0);
+        }
+    }
+    // The line through 29.00 Nm at 1,000 Nm and 300.00 Nm at 3,000 Nm is at zero near 786 Nm.
+    assert_eq!(negative, 3 * 16);
+}
