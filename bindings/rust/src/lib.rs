@@ -1,103 +1,35 @@
 //! A safe wrapper of libaxle.a: `include/axle.h` says what each call answers.
 //! Slices and arrays carry their lengths, so nothing is left for a caller to keep.
+//!
+//! Units: speeds of an axis in whole rpm and torques of an axis in whole Nm, both at the wheel;
+//! entries and losses in hundredths of Nm; a question's speed in tenths of rpm and its torque in
+//! hundredths of Nm.
+//!
+//! ```
+//! let data = [
+//!     1, 0, 1, 1, 2, 0, 1, 1, 3, 0, 2, 11, 184, 4, 0, 4, 0, 100, 0, 200, 5, 0, 4, 0, 0, 3, 232,
+//! ];
+//! let map = axle::Map::build(&data)?;
+//! assert_eq!(map.loss(1_000, 50_000)?, 14_021); // 140.21 Nm at 100.0 rpm and 500.00 Nm
+//! # Ok::<(), axle::Refusal>(())
+//! ```
 
-use std::fmt;
+mod c;
+mod grid;
+mod refusal;
 
-/// The number of a refusal and its place.
-#[derive(Clone, Copy, PartialEq, Eq, Debug)]
-pub struct Refusal {
-    pub number: u32,
-    pub place: usize,
-}
+pub use grid::Grid;
+pub use refusal::Refusal;
 
-impl fmt::Display for Refusal {
-    fn fmt(&self, f: &mut fmt::Formatter) -> fmt::Result {
-        write!(f, "refused {} at {}", self.number, self.place)
-    }
-}
+/// No map has more entries.
+pub const MAXIMUM_ENTRIES: usize = 2_048;
 
-impl std::error::Error for Refusal {}
+/// No listing has more bytes.
+pub const MAXIMUM_LISTING_LENGTH: usize = 65_536;
 
-/// The axes of a map: speeds in rpm and torques in Nm, of each the first `count` numbers.
-/// Any grid may be asked: one that breaks a rule is refused with 22.
-#[derive(Clone, Copy, PartialEq, Eq, Debug)]
-pub struct Grid {
-    pub speeds: [u16; 32],
-    pub speed_count: usize,
-    pub torques: [u16; 64],
-    pub torque_count: usize,
-}
-
-mod c {
-    #[repr(C)]
-    pub struct Built {
-        pub refusal: u32,
-        pub place: usize,
-        pub speeds: [u16; 32],
-        pub speed_count: usize,
-        pub torques: [u16; 64],
-        pub torque_count: usize,
-    }
-
-    #[repr(C)]
-    pub struct Loss {
-        pub refusal: u32,
-        pub place: usize,
-        pub loss: i64,
-    }
-
-    #[repr(C)]
-    pub struct Nearest {
-        pub refusal: u32,
-        pub place: usize,
-        pub speed: u16,
-        pub torque: u16,
-    }
-
-    #[repr(C)]
-    pub struct Listing {
-        pub refusal: u32,
-        pub place: usize,
-        pub length: usize,
-    }
-
-    extern "C" {
-        pub fn axle_build(
-            data: *const u8,
-            data_length: usize,
-            entries: *mut u32,
-            entry_count: usize,
-        ) -> Built;
-        pub fn axle_loss(
-            speeds: *const u16,
-            speed_count: usize,
-            torques: *const u16,
-            torque_count: usize,
-            entries: *const u32,
-            entry_count: usize,
-            speed: u32,
-            torque: u32,
-        ) -> Loss;
-        pub fn axle_nearest(
-            speeds: *const u16,
-            speed_count: usize,
-            torques: *const u16,
-            torque_count: usize,
-            speed: u32,
-            torque: u32,
-        ) -> Nearest;
-        pub fn axle_listing(
-            speeds: *const u16,
-            speed_count: usize,
-            torques: *const u16,
-            torque_count: usize,
-            entries: *const u32,
-            entry_count: usize,
-            text: *mut u8,
-            text_length: usize,
-        ) -> Listing;
-    }
-}
+/// Reading may stop after so many bytes: longer data is never accepted, and what follows them
+/// changes no answer.
+pub const READING_LIMIT: u64 = 32_768;
 
 fn answered<T>(refusal: u32, place: usize, value: T) -> Result<T, Refusal> {
     match refusal {
@@ -107,7 +39,8 @@ fn answered<T>(refusal: u32, place: usize, value: T) -> Result<T, Refusal> {
 }
 
 /// Builds the map of component data: its axes, and its entries in hundredths of Nm in the first
-/// speeds x torques of the lent entries. A refused build writes none.
+/// speeds x torques of the lent entries: all torques of the first speed, then those of the next.
+/// Nothing is written past those, and nothing at all where the build is refused. Refusals 1 to 12.
 pub fn build(data: &[u8], entries: &mut [u32]) -> Result<Grid, Refusal> {
     // The pointers are those of slices, valid for their lengths and apart from each other.
     let built = unsafe {
@@ -128,6 +61,7 @@ pub fn build(data: &[u8], entries: &mut [u32]) -> Result<Grid, Refusal> {
 }
 
 /// The loss in hundredths of Nm at a speed in tenths of rpm and a torque in hundredths of Nm.
+/// It may be negative below the first torque. Refusals 22, 20, 21.
 pub fn loss(grid: &Grid, entries: &[u32], speed: u32, torque: u32) -> Result<i64, Refusal> {
     // The arrays have all their places, and the entries their length.
     let answer = unsafe {
@@ -145,7 +79,9 @@ pub fn loss(grid: &Grid, entries: &[u32], speed: u32, torque: u32) -> Result<i64
     answered(answer.refusal, answer.place, answer.loss)
 }
 
-/// The nearest grid point, a speed in rpm and a torque in Nm.
+/// The nearest grid point, a speed in rpm and a torque in Nm, to a speed in tenths of rpm and a
+/// torque in hundredths of Nm; the lower number where two are as near. Refusal 22, for the axes
+/// alone.
 pub fn nearest(grid: &Grid, speed: u32, torque: u32) -> Result<(u16, u16), Refusal> {
     // The arrays have all their places.
     let answer = unsafe {
@@ -161,7 +97,9 @@ pub fn nearest(grid: &Grid, speed: u32, torque: u32) -> Result<(u16, u16), Refus
     answered(answer.refusal, answer.place, (answer.speed, answer.torque))
 }
 
-/// Writes the listing of a map from the start of the text, and answers its length.
+/// Writes the listing of a map from the start of the text, and answers its length in bytes: lines
+/// of a speed in rpm, a torque in Nm and a loss in Nm. Nothing is written past its length, and
+/// nothing at all where it is refused. Refusals 22, 11.
 pub fn listing(grid: &Grid, entries: &[u32], text: &mut [u8]) -> Result<usize, Refusal> {
     // The arrays have all their places, the slices their lengths, and the text overlaps nothing.
     let answer = unsafe {
@@ -179,7 +117,7 @@ pub fn listing(grid: &Grid, entries: &[u32], text: &mut [u8]) -> Result<usize, R
     answered(answer.refusal, answer.place, answer.length)
 }
 
-/// A map with its own entries.
+/// A map with its own entries. Maps are equal where their axes and entries are.
 #[derive(Clone, PartialEq, Eq, Debug)]
 pub struct Map {
     grid: Grid,
@@ -187,44 +125,74 @@ pub struct Map {
 }
 
 impl Map {
-    /// The map of component data.
+    /// The map of component data. Refusals 1 to 10 and 12.
     pub fn build(data: &[u8]) -> Result<Map, Refusal> {
-        let mut entries = vec![0; 2_048];
+        let mut entries = vec![0; MAXIMUM_ENTRIES];
         let grid = build(data, &mut entries)?;
         entries.truncate(grid.speed_count * grid.torque_count);
         Ok(Map { grid, entries })
     }
 
-    /// The speeds in rpm.
+    /// The speeds in rpm, two or more, rising.
     pub fn speeds(&self) -> &[u16] {
         &self.grid.speeds[..self.grid.speed_count]
     }
 
-    /// The torques in Nm.
+    /// The torques in Nm, two or more, rising.
     pub fn torques(&self) -> &[u16] {
         &self.grid.torques[..self.grid.torque_count]
     }
 
-    /// The entries in hundredths of Nm, for each speed, for each torque within it.
+    /// The entries in hundredths of Nm: all torques of the first speed, then those of the next.
     pub fn entries(&self) -> &[u32] {
         &self.entries
     }
 
     /// The loss in hundredths of Nm at a speed in tenths of rpm and a torque in hundredths of Nm.
+    /// It may be negative below the first torque. Refusals 20, 21.
     pub fn loss(&self, speed: u32, torque: u32) -> Result<i64, Refusal> {
         loss(&self.grid, &self.entries, speed, torque)
     }
 
-    /// The nearest grid point, a speed in rpm and a torque in Nm.
+    /// The nearest grid point, a speed in rpm and a torque in Nm, to a speed in tenths of rpm and
+    /// a torque in hundredths of Nm.
     pub fn nearest(&self, speed: u32, torque: u32) -> Result<(u16, u16), Refusal> {
         nearest(&self.grid, speed, torque)
     }
 
-    /// The listing of the map.
+    /// The listing of the map: a header, and a line for each entry that has its speed in rpm, its
+    /// torque in Nm and the loss in Nm.
     pub fn listing(&self) -> Result<String, Refusal> {
-        let mut text = vec![0; 65_536];
+        let mut text = vec![0; MAXIMUM_LISTING_LENGTH];
         let length = listing(&self.grid, &self.entries, &mut text)?;
         text.truncate(length);
         Ok(String::from_utf8(text).expect("a listing is ASCII"))
+    }
+}
+
+#[cfg(test)]
+mod tests {
+    use super::*;
+
+    #[test]
+    fn maps_differ_by_what_counts_alone() {
+        let mut grid = Grid {
+            speeds: [9; 32],
+            speed_count: 2,
+            torques: [9; 64],
+            torque_count: 1,
+        };
+        let map = |grid, entries: [u32; 2]| Map {
+            grid,
+            entries: entries.to_vec(),
+        };
+        let first = map(grid, [5, 6]);
+        assert_ne!(first, map(grid, [5, 7]));
+        grid.speeds[2] = 8;
+        grid.torques[1] = 8;
+        assert_eq!(first, map(grid, [5, 6]));
+        assert_eq!(format!("{:?}", first), format!("{:?}", map(grid, [5, 6])));
+        grid.torques[0] = 8;
+        assert_ne!(first, map(grid, [5, 6]));
     }
 }

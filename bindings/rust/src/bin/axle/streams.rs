@@ -1,0 +1,49 @@
+//! Reading and writing, with every error answered. Standard input and output are taken as files,
+//! since Rust's own handles hide that a stream is not open for reading or writing.
+
+use crate::failure::Failure;
+use std::ffi::OsStr;
+use std::fmt::Display;
+use std::fs::File;
+use std::io::{self, Read, Write};
+use std::os::unix::io::{AsFd, BorrowedFd};
+
+fn file(stream: BorrowedFd) -> io::Result<File> {
+    stream.try_clone_to_owned().map(File::from)
+}
+
+fn open(name: &OsStr) -> io::Result<File> {
+    if name == "-" {
+        file(io::stdin().as_fd())
+    } else {
+        File::open(name)
+    }
+}
+
+/// The data in a file, or on standard input for `-`, up to the library's limit.
+pub fn read(name: &OsStr) -> Result<Vec<u8>, Failure> {
+    let mut data = Vec::new();
+    let read = |file: File| file.take(axle::READING_LIMIT).read_to_end(&mut data);
+    match open(name).and_then(read) {
+        Ok(_) => Ok(data),
+        Err(error) if name == "-" => Err(failed("read standard input", error)),
+        Err(error) => Err(failed(&format!("read {name:?}"), error)),
+    }
+}
+
+/// Writes all of the text to standard output.
+pub fn write(text: &[u8]) -> Result<(), Failure> {
+    let write = |mut output: File| output.write_all(text).and_then(|()| output.flush());
+    file(io::stdout().as_fd())
+        .and_then(write)
+        .map_err(|error| failed("write standard output", error))
+}
+
+/// Writes a message and a line feed to standard error; where that fails, the status still tells.
+pub fn write_error(message: &impl Display) {
+    let _ = io::stderr().write_all(format!("{message}\n").as_bytes());
+}
+
+fn failed(what: &str, error: io::Error) -> Failure {
+    Failure::Failed(format!("cannot {what}: {error}"))
+}

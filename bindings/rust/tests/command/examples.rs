@@ -1,0 +1,54 @@
+//! Every example of the repository: NAME.axle has its listing beside it in NAME.csv, or the line
+//! of its refusal in NAME.refusal.
+
+use super::*;
+use std::path::Path;
+
+/// The examples' component data, each without its ending.
+fn names() -> Vec<PathBuf> {
+    let entries = std::fs::read_dir(examples_folder()).expect("a folder");
+    let paths = entries.map(|entry| entry.expect("an entry").path());
+    let data = paths.filter(|path| path.extension() == Some(OsStr::new("axle")));
+    data.map(|path| path.with_extension("")).collect()
+}
+
+fn accepted(name: &Path) {
+    let listing = std::fs::read_to_string(name.with_extension("csv")).expect("read");
+    let data = name.with_extension("axle");
+    assert_answered(run([OsStr::new("list"), data.as_ref()]), &listing);
+    let check = run([OsStr::new("check"), data.as_ref()]);
+    let (status, answer, errors) = parts(&check);
+    assert_eq!((status, errors), (Some(0), ""), "{:?}", data);
+    assert!(answer.starts_with("accepted: "), "{:?}", data);
+}
+
+fn refused(name: &Path) {
+    let line = std::fs::read_to_string(name.with_extension("refusal")).expect("read");
+    let refusal = line.strip_suffix('\n').expect("a line");
+    let data = name.with_extension("axle");
+    for word in ["list", "check"] {
+        let output = run([OsStr::new(word), data.as_ref()]);
+        assert_failed_with(output, 1, &format!("axle: {}: ", refusal));
+    }
+}
+
+#[test]
+fn every_example_answers_as_the_file_beside_it_says() {
+    let (mut accepted_count, mut refused_count) = (0, 0);
+    for name in names() {
+        let is_there = |ending| name.with_extension(ending).is_file();
+        match (is_there("csv"), is_there("refusal")) {
+            (true, false) => {
+                accepted(&name);
+                accepted_count += 1;
+            }
+            (false, true) => {
+                refused(&name);
+                refused_count += 1;
+            }
+            _ => panic!("{:?}: either .csv or .refusal is due beside it", name),
+        }
+    }
+    assert!(accepted_count > 0, "no accepted example");
+    assert!(refused_count > 0, "no refused example");
+}

@@ -1,0 +1,118 @@
+//! Help, and calls that are none.
+
+use super::*;
+
+#[test]
+fn help() {
+    let output = run(["--help"]);
+    let (status, help, errors) = parts(&output);
+    assert_eq!((status, errors), (Some(0), ""));
+    for word in [
+        "axle list FILE ",
+        "axle loss FILE SPEED TORQUE ",
+        "axle nearest FILE SPEED TORQUE ",
+        "axle check FILE ",
+        "rpm",
+        "Nm",
+        "Status 2",
+        "examples:",
+    ] {
+        assert!(help.contains(word), "{}", word);
+    }
+    assert_answered(run(["-h"]), help);
+    assert_answered(run(["list", "--help"]), help);
+}
+
+#[test]
+fn examples_in_the_help() {
+    let output = run(["--help"]);
+    let (_, help, _) = parts(&output);
+    let examples = help.lines().filter_map(|line| line.split_once(" prints "));
+    let mut count = 0;
+    for (call, answer) in examples {
+        let arguments = call.split_whitespace().skip(1);
+        assert_answered(run(arguments), &format!("{}\n", answer));
+        count += 1;
+    }
+    assert_eq!(count, 2);
+}
+
+#[track_caller]
+fn assert_wrong_usage(arguments: &[&str], what: &str, usage: &str) {
+    let message = format!("axle: {}\nusage: {}\n", what, usage);
+    assert_failed(run(arguments), 2, &message);
+}
+
+#[test]
+fn no_command() {
+    let usage = "axle list|loss|nearest|check .., or axle --help";
+    assert_wrong_usage(&[], "no command given", usage);
+    assert_wrong_usage(&["lists"], "unknown command \"lists\"", usage);
+    assert_wrong_usage(&["", STANDARD], "unknown command \"\"", usage);
+    assert_wrong_usage(&["-v"], "unknown command \"-v\"", usage);
+}
+
+#[test]
+fn too_few_or_too_many_arguments() {
+    let usage = "axle list FILE";
+    let (few, many) = ("too few arguments for list", "too many arguments for list");
+    assert_wrong_usage(&["list"], few, usage);
+    assert_wrong_usage(&["list", STANDARD, STANDARD], many, usage);
+    let usage = "axle loss FILE SPEED TORQUE";
+    let (few, many) = ("too few arguments for loss", "too many arguments for loss");
+    assert_wrong_usage(&["loss", STANDARD, "100"], few, usage);
+    assert_wrong_usage(&["loss", STANDARD, "1", "2", "3"], many, usage);
+}
+
+#[test]
+fn unknown_options() {
+    let what = "unknown option \"-x\"; a file of this name is given as \"./-x\"";
+    assert_wrong_usage(&["list", "-x"], what, "axle list FILE");
+    assert_wrong_usage(
+        &["nearest", "-x", "100", "0"],
+        what,
+        "axle nearest FILE SPEED TORQUE",
+    );
+}
+
+/// Numbers are looked at before the file, which is not there.
+#[test]
+fn malformed_numbers() {
+    let malformed = [
+        "", "abc", "1.", ".5", ".", "+1", "-5", "-0", "1e3", "1,5", "1.234", " 1", "1 ", "1_000",
+        "0x10", "1.2.3", "1..2", "1.-1", "\u{0661}", "NaN", "inf",
+    ];
+    for number in malformed {
+        for word in ["loss", "nearest"] {
+            let speed = format!("axle: SPEED {:?} is not allowed: ", number);
+            assert_failed_with(run([word, "missing.axle", number, "0"]), 2, &speed);
+            let torque = format!("axle: TORQUE {:?} is not allowed: ", number);
+            assert_failed_with(run([word, "missing.axle", "0", number]), 2, &torque);
+        }
+    }
+}
+
+#[test]
+fn numbers_beyond_the_units_or_the_library() {
+    let speeds = ["100.05", "100.50", "429496729.6", "99999999999999999999"];
+    for speed in speeds {
+        assert_failed(
+            run(["loss", STANDARD, speed, "0"]),
+            2,
+            &format!(
+                "axle: SPEED {:?} is not allowed: a number in rpm without a sign, at most one digit after the point, 0 to 429496729.5\n",
+                speed
+            ),
+        );
+    }
+    for torque in ["100.005", "42949672.96", "99999999999999999999"] {
+        assert_failed(
+            run(["nearest", STANDARD, "100", torque]),
+            2,
+            &format!(
+                "axle: TORQUE {:?} is not allowed: a number in Nm without a sign, at most two digits after the point, 0 to 42949672.95\n",
+                torque
+            ),
+        );
+    }
+}
