@@ -30,7 +30,7 @@ fn kept(name: &str, kept: bool) -> String {
 }
 
 fn refused(refusal: Refusal) -> String {
-    format!("{refusal}\n")
+    format!("refused {} at {}\n", refusal.number, refusal.place)
 }
 
 /// The case's answer; data that is to be read or reported is built.
@@ -106,11 +106,11 @@ fn question_answer(grid: &Grid, entries: &[u32], question: Question) -> String {
     let mut lines = String::new();
     let _ = match axle::loss(grid, entries, question.speed, question.torque) {
         Ok(loss) => writeln!(lines, "loss {loss}"),
-        Err(refusal) => writeln!(lines, "{refusal}"),
+        Err(refusal) => lines.write_str(&refused(refusal)),
     };
     let _ = match axle::nearest(grid, question.speed, question.torque) {
         Ok((speed, torque)) => writeln!(lines, "nearest {speed} {torque}"),
-        Err(refusal) => writeln!(lines, "{refusal}"),
+        Err(refusal) => lines.write_str(&refused(refusal)),
     };
     lines
 }

@@ -1,4 +1,5 @@
-//! The benchmark: the proved library beside plain Rust, the second implementation and doubles, on the same inputs in one run. It prints times and ratios.
+//! The benchmark: the proved library beside plain Rust, the second implementation and doubles, on the same inputs in one run.
+//! It prints times and ratios as the tables of docs/PERFORMANCE.md.
 
 use axle::Grid;
 use measure::answers::grid_of;
@@ -57,14 +58,75 @@ fn times(ways: &mut [Way]) -> Vec<f64> {
     best
 }
 
-/// Prints the times, and the ratios of the first way to the others.
-fn report(what: &str, target: &str, mut ways: Vec<Way>) {
-    let best = times(&mut ways);
-    print!("{what}: library {:.1} ns", best[0]);
-    for (way, time) in ways.iter().zip(&best).skip(1) {
-        print!(", {} {time:.1} ns (ratio {:.2})", way.name, best[0] / time);
+/// What the library may take, as a share of the others' times.
+#[derive(Clone, Copy)]
+struct Target {
+    yardstick: Option<f64>,
+    doubles: Option<f64>,
+}
+
+const NO_TARGET: Target = Target {
+    yardstick: None,
+    doubles: None,
+};
+
+fn of_yardstick(share: f64) -> Target {
+    Target {
+        yardstick: Some(share),
+        doubles: None,
     }
-    println!("; {target}");
+}
+
+impl Target {
+    /// Each target in words, with whether it is reached.
+    fn verdict(self, to_yardstick: f64, to_doubles: f64) -> String {
+        let told = [
+            (self.yardstick, to_yardstick, "the yardstick"),
+            (self.doubles, to_doubles, "doubles"),
+        ]
+        .into_iter()
+        .filter_map(|(share, ratio, name)| {
+            let share = share?;
+            let verdict = if ratio <= share { "reached" } else { "missed" };
+            Some(format!("at most {share} of {name}: {verdict}"))
+        });
+        told.collect::<Vec<String>>().join(", ")
+    }
+}
+
+/// A time in the unit that reads best.
+fn time_text(nanoseconds: f64) -> String {
+    if nanoseconds < 1_000.0 {
+        format!("{nanoseconds:.1} ns")
+    } else {
+        format!("{:.2} µs", nanoseconds / 1_000.0)
+    }
+}
+
+/// Prints a row of the table: the times, the ratios, and what the target says. The yardstick is the quicker of plain Rust and the second implementation.
+fn report(what: &str, target: Target, mut ways: Vec<Way>) {
+    let best = times(&mut ways);
+    let of = |name: &str| {
+        let place = ways.iter().position(|way| way.name == name);
+        place.map(|place| best[place])
+    };
+    let cell = |name: &str| of(name).map_or(String::new(), time_text);
+    let infinite = f64::INFINITY;
+    let yardstick = of("Rust")
+        .unwrap_or(infinite)
+        .min(of("reference").unwrap_or(infinite));
+    let (to_yardstick, to_doubles) = (
+        best[0] / yardstick,
+        best[0] / of("doubles").unwrap_or(infinite),
+    );
+    println!(
+        "| {what} | {} | {} | {} | {} | {to_yardstick:.2} | {to_doubles:.2} | {} |",
+        cell("library"),
+        cell("Rust"),
+        cell("reference"),
+        cell("doubles"),
+        target.verdict(to_yardstick, to_doubles)
+    );
 }
 
 /// Data that is built, and its map as each of the four has it.
@@ -181,8 +243,8 @@ fn measure_roots() {
     roots::plain(&numbers, &mut theirs);
     assert_eq!(ours, theirs);
     report(
-        "root rounded up",
-        "target: at most 0.8 of Rust",
+        "root rounded up, n below 7.3e17",
+        of_yardstick(0.8),
         vec![
             way("library", 4_096, || {
                 roots::proved(black_box(&numbers), &mut ours)
@@ -197,7 +259,7 @@ fn measure_roots() {
     );
 }
 
-fn measure_build(what: &str, target: &str, subject: &Subject) {
+fn measure_build(what: &str, target: Target, subject: &Subject) {
     let mut entries = vec![0; 2_048];
     report(
         what,
@@ -233,7 +295,7 @@ impl Subject {
     }
 }
 
-fn measure_loss(what: &str, target: &str, subject: &Subject) {
+fn measure_loss(what: &str, target: Target, subject: &Subject) {
     let (speeds, torques, entries) = (&subject.speeds, &subject.torques, &subject.entries);
     let ours = || {
         subject.each(|speed, torque| {
@@ -286,12 +348,12 @@ fn measure_nearest(what: &str, subject: &Subject) {
             black_box(doubles::nearest(speeds, torques, speed, torque));
         })
     };
-    report_questions(what, "no target", ours, plain, reference, doubles);
+    report_questions(what, NO_TARGET, ours, plain, reference, doubles);
 }
 
 fn report_questions(
     what: &str,
-    target: &str,
+    target: Target,
     ours: impl Fn(),
     plain: impl Fn(),
     reference: impl Fn(),
@@ -309,7 +371,7 @@ fn report_questions(
     );
 }
 
-fn measure_listing(what: &str, target: &str, subject: &Subject) {
+fn measure_listing(what: &str, target: Target, subject: &Subject) {
     let (speeds, torques, entries) = (&subject.speeds, &subject.torques, &subject.entries);
     let mut text = vec![0; 65_536];
     let (mut plain_text, mut double_text) = (Vec::new(), Vec::new());
@@ -362,31 +424,58 @@ fn measure_all() {
     for each in [&measured, &standard, &small, &large] {
         check(each);
     }
-    let (wrong, all) = (wrong_doubles(&measured), measured.entries.len());
-    println!("entries of the measured map that doubles get wrong: {wrong} of {all}");
+    println!(
+        "| what | library | Rust | reference | doubles | to the yardstick | to doubles | target |"
+    );
+    println!("|---|---|---|---|---|---|---|---|");
     measure_roots();
-    let target = "target: at most 0.75 of Rust, at most 1.0 of doubles";
+    let target = Target {
+        yardstick: Some(0.75),
+        doubles: Some(1.0),
+    };
     measure_build("build, measured, 32 x 64", target, &measured);
-    measure_build("build, standard, 32 x 64", "no target", &standard);
-    let target = "target: at most 0.7 of Rust";
-    measure_loss("loss at a point, 32 x 64", target, &measured);
-    let what = "loss at a point, 32 x 64, entries of 83,886.08 Nm and more";
-    measure_loss(what, "no target", &large);
-    let target = "target: at most 1.5 of Rust";
-    measure_loss("loss at a point, 2 x 2", target, &small);
+    measure_build("build, standard, 32 x 64", NO_TARGET, &standard);
+    measure_loss("loss at a point, 32 x 64", of_yardstick(0.7), &measured);
+    let what = "the same, an entry of 83,886.08 Nm or more";
+    measure_loss(what, NO_TARGET, &large);
+    measure_loss("loss at a point, 2 x 2", of_yardstick(1.5), &small);
     measure_nearest("nearest point, 32 x 64", &measured);
-    let target = "target: at most 0.3 of Rust";
-    measure_listing("listing, 32 x 64", target, &measured);
+    measure_listing("listing, 32 x 64", of_yardstick(0.3), &measured);
+    let (wrong, all) = (wrong_doubles(&measured), measured.entries.len());
+    println!("\nEntries of the measured map that doubles get wrong: {wrong} of {all}.");
+}
+
+/// The time of one piece of work of the library alone.
+fn library_time(times_a_call: usize, work: impl FnMut()) -> String {
+    time_text(times(&mut [way("library", times_a_call, work)])[0])
+}
+
+fn growth_row(subject: &Subject) {
+    let (mut entries, mut text) = (vec![0; 2_048], vec![0; 65_536]);
+    let build = library_time(1, || {
+        let _ = black_box(axle::build(black_box(&subject.data), &mut entries));
+    });
+    let loss = library_time(QUESTIONS, || {
+        subject.each(|speed, torque| {
+            let _ = black_box(axle::loss(&subject.grid, &subject.entries, speed, torque));
+        })
+    });
+    let listing = library_time(1, || {
+        let _ = black_box(axle::listing(&subject.grid, &subject.entries, &mut text));
+    });
+    println!(
+        "| {} x {} | {} | {build} | {loss} | {listing} |",
+        subject.speeds.len(),
+        subject.torques.len(),
+        subject.entries.len()
+    );
 }
 
 fn measure_growth() {
-    println!("how the cost grows with the grid:");
+    println!("\n| grid | entries | build, measured | loss at a point | listing |");
+    println!("|---|---|---|---|---|");
     for (speeds, torques) in [(2, 2), (4, 8), (8, 16), (16, 32), (32, 64)] {
-        let subject = subject(2, speeds, torques, false);
-        let size = format!("{speeds} x {torques}");
-        measure_build(&format!("build, measured, {size}"), "growth", &subject);
-        measure_loss(&format!("loss at a point, {size}"), "growth", &subject);
-        measure_listing(&format!("listing, {size}"), "growth", &subject);
+        growth_row(&subject(2, speeds, torques, false));
     }
 }
 
