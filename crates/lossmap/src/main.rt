@@ -3,8 +3,9 @@ use libc::STDERR_FILENO;
 use libc::STDIN_FILENO;
 use libc::STDOUT_FILENO;
 ghost use Prim.Native.Nat.{_≤_};
+ghost use mathlib.Core.Path.{_≡_};
 ghost use lib.ListN.{length};
-ghost use Rattle.lossmap.specs.Input.{bytesRead};
+ghost use Rattle.lossmap.specs.Input.{inputOf, bytesRead};
 
 // How many bytes were read, or that reading failed.
 enum Input {
@@ -12,15 +13,22 @@ enum Input {
     Failed,
 }
 
+// What the answer of the C library's `read` says.
+fn input_of(got: isize, part: &[u8]) -> Input
+    ensures { λ r. ⌜ r ≡ inputOf got (length (now (part .entry))) ⌝ }
+{
+    if got < 0 {
+        return Input::Failed;
+    }
+    Input::Bytes(io::count(got, part))
+}
+
 // Reads once; no bytes mean that the input has ended.
 fn read_part(part: &mut [u8]) -> Input
     ensures { λ r. ⌜ bytesRead r ≤ length (now (part .entry)) ⌝ }
 {
     let got = libc::read(STDIN_FILENO, part);
-    if got < 0 {
-        return Input::Failed;
-    }
-    Input::Bytes(io::count(got, part))
+    input_of(got, part)
 }
 
 // Reads until the input ends or the buffer is full.
