@@ -13,7 +13,7 @@ pub struct Refusal {
 impl fmt::Display for Refusal {
     fn fmt(&self, f: &mut fmt::Formatter) -> fmt::Result {
         write!(f, "refused {} at {}", self.number, self.place)?;
-        match words(self.number) {
+        match words(self.number, self.place) {
             Some(words) => write!(f, ": {words}"),
             None => Ok(()),
         }
@@ -22,10 +22,12 @@ impl fmt::Display for Refusal {
 
 impl std::error::Error for Refusal {}
 
-/// What each number says, with what its place is.
-fn words(number: u32) -> Option<&'static str> {
+/// What each number says, with what its place is. Data whose first field is missing is most often
+/// something else.
+fn words(number: u32, place: usize) -> Option<&'static str> {
     Some(match number {
         1 => "the data ends within a field (the field's offset)",
+        2 if place == 0 => "empty, or not component data (the field's offset)",
         2 => "missing or wrong field (the field's offset)",
         3 => "field of a wrong length (the field's offset)",
         4 => "number out of range (the number's offset)",

@@ -13,8 +13,12 @@ fn page() -> String {
     std::fs::read_to_string(at_root("docs/FORMAT.md")).expect("the page is there")
 }
 
+fn example_named(name: &str) -> Vec<u8> {
+    std::fs::read(at_root("examples").join(name)).expect("the example is there")
+}
+
 fn example() -> Vec<u8> {
-    std::fs::read(at_root("examples/measured.axle")).expect("the example is there")
+    example_named("measured.axle")
 }
 
 /// The rows of the table whose first column has this head, each as its cells.
@@ -151,21 +155,29 @@ fn rows_of_fields() -> Vec<(u8, Vec<String>)> {
         .collect()
 }
 
-#[test]
-fn the_dump_is_the_example() {
-    let page = page();
+/// The bytes of a dump of the page, each line at the offset that it says.
+fn dumped(page: &str, mark: &str) -> Vec<u8> {
     let lines = page
         .lines()
-        .skip_while(|line| !line.starts_with("  0: "))
+        .skip_while(|line| *line != format!("```{mark}"))
+        .skip(1)
         .take_while(|line| *line != "```");
     let mut data = Vec::new();
     for line in lines {
-        let told = line.split("  ").find(|part| part.contains(": "));
-        let (offset, bytes) = bytes_at(told.expect("an offset and bytes"));
+        let (told, _) = line.split_once('#').expect("a remark");
+        let (offset, bytes) = bytes_at(told);
         assert_eq!(offset, data.len(), "{line}");
         data.extend(bytes);
     }
-    assert_eq!(data, example());
+    data
+}
+
+#[test]
+fn the_dumps_are_the_examples() {
+    for name in ["measured", "standard"] {
+        let data = dumped(&page(), &format!("{name}.dump"));
+        assert_eq!(data, example_named(&format!("{name}.axle")), "{name}");
+    }
 }
 
 #[test]
@@ -173,7 +185,7 @@ fn the_fields_are_those_of_the_table() {
     let tags: Vec<u8> = rows_of_fields().iter().map(|(tag, _)| *tag).collect();
     let measured: Vec<u8> = fields(&example()).iter().map(|field| field.tag).collect();
     assert_eq!(tags, measured);
-    let standard = std::fs::read(at_root("examples/standard.axle")).expect("it is there");
+    let standard = example_named("standard.axle");
     let standard: Vec<u8> = fields(&standard).iter().map(|field| field.tag).collect();
     assert_eq!(tags[..5], standard);
 }
@@ -222,7 +234,32 @@ fn ranges_are_those_of_the_tables() {
     for (index, row) in numbers.iter().enumerate() {
         assert_eq!(number(&row[0]), index);
         for tag in [6, 7] {
-            hold_range(tag, index, 2, number(&row[4]), number(&row[5]));
+            hold_range(tag, index, 2, number(&row[5]), number(&row[6]));
+        }
+    }
+}
+
+/// `22 + 2m + 2n` for so many speeds and torques.
+fn offset(text: &str, speeds: usize, torques: usize) -> usize {
+    let terms = text.split(" + ").map(|term| match term {
+        "2m" => 2 * speeds,
+        "2n" => 2 * torques,
+        _ => number(term),
+    });
+    terms.sum()
+}
+
+#[test]
+fn fields_stand_where_the_table_says() {
+    let rows = table(&page(), "tag", "head");
+    for name in ["measured.axle", "bench-run.axle"] {
+        let fields = fields(&example_named(name));
+        let (speeds, torques) = (fields[3].body.len() / 2, fields[4].body.len() / 2);
+        assert_eq!(rows.len(), fields.len());
+        for (row, field) in rows.iter().zip(fields) {
+            assert_eq!(number(&row[0]), usize::from(field.tag));
+            assert_eq!(offset(&row[1], speeds, torques), field.head, "{name}");
+            assert_eq!(offset(&row[2], speeds, torques), field.head + 3, "{name}");
         }
     }
 }

@@ -100,6 +100,10 @@ fn refusals_print_by_their_words() {
         text(11, 76),
         "refused 11 at 76: too little room for the answer (the count needed)"
     );
+    assert_eq!(
+        text(2, 0),
+        "refused 2 at 0: empty, or not component data (the field's offset)"
+    );
     assert_eq!(text(20, 0), "refused 20 at 0: speed outside the axis");
     for number in [0, 13, 19, 23, u32::MAX] {
         assert_eq!(text(number, 5), format!("refused {} at 5", number));

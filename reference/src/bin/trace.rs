@@ -30,14 +30,18 @@ fn run(arguments: &[OsString]) -> Result<(), Failure> {
         return write(USAGE);
     }
     let [command, file, speed, torque] = arguments else {
-        return Err(unable(USAGE.trim_end()));
+        return Err(wrong_usage("four arguments are due"));
     };
     let text = match command.to_str() {
         Some("entry") => entry(file, speed, torque)?,
         Some("point") => point(file, speed, torque)?,
-        _ => return Err(unable(USAGE.trim_end())),
+        _ => return Err(wrong_usage("entry or point is due first")),
     };
     write(&text)
+}
+
+fn wrong_usage(what: &str) -> Failure {
+    unable(format!("trace: {what}\n{}", USAGE.trim_end()))
 }
 
 /// How an argument is written.

@@ -69,6 +69,30 @@ fn a_closed_pipe() {
     assert_failed_with(output, 2, message);
 }
 
+/// Runs the command with a standard stream closed by the shell.
+fn run_closed(words: &str, closed: &str) -> Output {
+    let program = env!("CARGO_BIN_EXE_axle");
+    let call = format!("exec \"$0\" {} {}", words, closed);
+    let mut shell = Command::new("sh");
+    shell.args(["-c", &call, program]);
+    shell.current_dir(examples_folder());
+    shell.output().expect("it runs")
+}
+
+#[test]
+fn streams_that_are_closed() {
+    let closed = "axle: cannot write standard output: it is closed\n";
+    for words in ["list standard.axle", "check standard.axle", "--help"] {
+        assert_failed(run_closed(words, ">&-"), 2, closed);
+    }
+    let closed = "axle: cannot read standard input: it is closed\n";
+    assert_failed(run_closed("check -", "<&-"), 2, closed);
+    let listing = std::fs::read_to_string(examples_folder().join("standard.csv")).expect("read");
+    assert_answered(run_closed("list standard.axle", "<&-"), &listing);
+    let status = run_closed("list refused.axle", "2>&-").status.code();
+    assert_eq!(status, Some(1));
+}
+
 #[test]
 fn messages_that_cannot_be_written() {
     let status = |arguments: &[&str]| {

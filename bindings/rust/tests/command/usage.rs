@@ -15,7 +15,7 @@ fn help() {
         "rpm",
         "Nm",
         "Status 2",
-        "examples:",
+        "examples, in",
     ] {
         assert!(help.contains(word), "{}", word);
     }
@@ -34,7 +34,7 @@ fn examples_in_the_help() {
         assert_answered(run(arguments), &format!("{}\n", answer));
         count += 1;
     }
-    assert_eq!(count, 2);
+    assert_eq!(count, 3);
 }
 
 #[track_caller]
@@ -93,26 +93,28 @@ fn malformed_numbers() {
 }
 
 #[test]
-fn numbers_beyond_the_units_or_the_library() {
-    let speeds = ["100.05", "100.50", "429496729.6", "99999999999999999999"];
-    for speed in speeds {
-        assert_failed(
-            run(["loss", STANDARD, speed, "0"]),
-            2,
-            &format!(
-                "axle: SPEED {:?} is not allowed: a number in rpm without a sign, at most one digit after the point, 0 to 429496729.5\n",
-                speed
-            ),
-        );
+fn numbers_beyond_the_units() {
+    for speed in ["100.05", "100.50"] {
+        let allowed = "a number in rpm without a sign, at most one digit after the point";
+        let message = format!("axle: SPEED {:?} is not allowed: {}\n", speed, allowed);
+        assert_failed(run(["loss", STANDARD, speed, "0"]), 2, &message);
     }
-    for torque in ["100.005", "42949672.96", "99999999999999999999"] {
-        assert_failed(
-            run(["nearest", STANDARD, "100", torque]),
-            2,
-            &format!(
-                "axle: TORQUE {:?} is not allowed: a number in Nm without a sign, at most two digits after the point, 0 to 42949672.95\n",
-                torque
-            ),
+    let allowed = "a number in Nm without a sign, at most two digits after the point";
+    let message = format!("axle: TORQUE \"100.005\" is not allowed: {}\n", allowed);
+    assert_failed(run(["nearest", STANDARD, "100", "100.005"]), 2, &message);
+}
+
+#[test]
+fn numbers_beyond_the_library() {
+    for speed in ["429496729.6", "429496730", "99999999999999999999"] {
+        let message = format!("axle: SPEED {:?} is too large for a number in rpm\n", speed);
+        assert_failed(run(["loss", STANDARD, speed, "0"]), 2, &message);
+    }
+    for torque in ["42949672.96", "99999999999999999999"] {
+        let message = format!(
+            "axle: TORQUE {:?} is too large for a number in Nm\n",
+            torque
         );
+        assert_failed(run(["nearest", STANDARD, "100", torque]), 2, &message);
     }
 }

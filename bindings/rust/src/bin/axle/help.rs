@@ -14,13 +14,18 @@ FILE    component data; - for standard input; ./-name for a name that begins wit
 SPEED   speed at the wheel in rpm, at most one digit after the point
 TORQUE  torque at the wheel in Nm, at most two digits after the point
 
+Below the map's first torque a loss follows the line of the first two torques and
+may be negative. The nearest point is the lower one of two that are equally near, and
+the end of the axis for a point outside it.
+
 Answers go to standard output, refusals and failures to standard error.
 Status 0: answered. Status 1: the data or the question is refused.
 Status 2: something could not be read or written, or wrong usage.
 
-examples:
-  axle list standard.axle > standard.csv
+examples, in the folder examples:
+  axle list standard.axle > map.csv
   axle loss standard.axle 100.0 500.00   prints 140.21
+  axle loss measured.axle 100 500        prints -38.75
   axle nearest standard.axle 150.1 500   prints 200,0
   axle check - < standard.axle
 ";

@@ -1,5 +1,6 @@
 //! The command `axle`: answers of the library for scripts. `axle --help` says what it takes.
 
+mod closed;
 mod commands;
 mod failure;
 mod help;

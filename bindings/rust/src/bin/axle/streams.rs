@@ -1,6 +1,7 @@
 //! Reading and writing, with every error answered. Standard input and output are taken as files,
 //! since Rust's own handles hide that a stream is not open for reading or writing.
 
+use crate::closed;
 use crate::failure::Failure;
 use std::ffi::OsStr;
 use std::fmt::Display;
@@ -8,13 +9,16 @@ use std::fs::File;
 use std::io::{self, Read, Write};
 use std::os::unix::io::{AsFd, BorrowedFd};
 
-fn file(stream: BorrowedFd) -> io::Result<File> {
+fn file(stream: BorrowedFd, closed: bool) -> io::Result<File> {
+    if closed {
+        return Err(io::Error::new(io::ErrorKind::NotConnected, "it is closed"));
+    }
     stream.try_clone_to_owned().map(File::from)
 }
 
 fn open(name: &OsStr) -> io::Result<File> {
     if name == "-" {
-        file(io::stdin().as_fd())
+        file(io::stdin().as_fd(), closed::input())
     } else {
         File::open(name)
     }
@@ -34,7 +38,7 @@ pub fn read(name: &OsStr) -> Result<Vec<u8>, Failure> {
 /// Writes all of the text to standard output.
 pub fn write(text: &[u8]) -> Result<(), Failure> {
     let write = |mut output: File| output.write_all(text).and_then(|()| output.flush());
-    file(io::stdout().as_fd())
+    file(io::stdout().as_fd(), closed::output())
         .and_then(write)
         .map_err(|error| failed("write standard output", error))
 }
