@@ -149,6 +149,10 @@ fn wrong_usage() {
     for arguments in usage {
         expect_failure(run(TRACE, arguments), 2, "trace entry FILE SPEED TORQUE");
     }
+}
+
+#[test]
+fn numbers_that_are_none() {
     for (command, speed, torque, message) in [
         (
             "entry",

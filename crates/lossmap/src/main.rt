@@ -31,8 +31,9 @@ fn read_part(part: &mut [u8]) -> Input
     input_of(got, part)
 }
 
-// Reads until the input ends or the buffer is full.
-fn read_input(buffer: &mut [u8]) -> Input {
+// Reads until the input ends or all of its room is full.
+fn read_input(input: &mut [u8; 32768]) -> Input {
+    let buffer: &mut [u8] = &mut input[..];
     let mut length: usize = 0;
     while length < buffer.len() {
         match read_part(&mut buffer[length..]) {

@@ -31,17 +31,11 @@ read-part-requires c κs = search needs
 enum-told : tie.Need-enum-told Inv-loop μ-loop
 enum-told c = search needs
 
-same-length : tie.Need-same-length Inv-loop μ-loop
-same-length c = search needs
-
 returns : tie.Need-returns Inv-loop μ-loop
 returns c = search needs
 
 enum-known-count : tie.Need-enum-known-count Inv-loop μ-loop
 enum-known-count c = search needs
-
-same-length-2 : tie.Need-same-length-2 Inv-loop μ-loop
-same-length-2 c = search needs
 
 returns-2 : tie.Need-returns-2 Inv-loop μ-loop
 returns-2 c = search needs
@@ -59,9 +53,6 @@ loop-again c =
     let read = rw (c .before .before .count .given .1) at (c .before .before .before .before .before .before .read-part .ensures) in
     (omega arith, omega (arith, read))
 
-same-length-3 : tie.Need-same-length-3 Inv-loop μ-loop
-same-length-3 c = search needs
-
 returns-3 : tie.Need-returns-3 Inv-loop μ-loop
 returns-3 c = search needs
 
@@ -77,13 +68,10 @@ read-input-spec =
     part-read-part-end
     read-part-requires
     enum-told
-    same-length
     returns
     enum-known-count
-    same-length-2
     returns-2
     add-length
     loop-less
     loop-again
-    same-length-3
     returns-3)
