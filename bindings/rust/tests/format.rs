@@ -1,4 +1,9 @@
-//! docs/FORMAT.md held to the library: the dump, each limit of its tables and one beyond it, and each refusal as the page tries it.
+//! docs/FORMAT.md held to the library: the dumps, each limit of its tables and of its words and one beyond it, the axle lines, and each refusal as the page tries it.
+
+#[path = "format/dumps.rs"]
+mod dumps;
+#[path = "format/words.rs"]
+mod words;
 
 use axle::{build, loss, Refusal};
 use std::path::PathBuf;
@@ -155,29 +160,11 @@ fn rows_of_fields() -> Vec<(u8, Vec<String>)> {
         .collect()
 }
 
-/// The bytes of a dump of the page, each line at the offset that it says.
-fn dumped(page: &str, mark: &str) -> Vec<u8> {
-    let lines = page
-        .lines()
-        .skip_while(|line| *line != format!("```{mark}"))
-        .skip(1)
-        .take_while(|line| *line != "```");
-    let mut data = Vec::new();
-    for line in lines {
-        let (told, _) = line.split_once('#').expect("a remark");
-        let (offset, bytes) = bytes_at(told);
-        assert_eq!(offset, data.len(), "{line}");
-        data.extend(bytes);
-    }
-    data
-}
-
-#[test]
-fn the_dumps_are_the_examples() {
-    for name in ["measured", "standard"] {
-        let data = dumped(&page(), &format!("{name}.dump"));
-        assert_eq!(data, example_named(&format!("{name}.axle")), "{name}");
-    }
+/// The axle lines as the row of tag 2 lists them.
+fn line_names() -> Vec<String> {
+    let row = &rows_of_fields()[1].1;
+    let (_, names) = row[1].split_once(": ").expect("a list of names");
+    names.split(", ").map(str::to_string).collect()
 }
 
 #[test]
@@ -214,7 +201,10 @@ fn lengths_are_those_of_the_table() {
 #[test]
 fn rows_have_their_length_for_each_point() {
     let row = &rows_of_fields()[7].1;
-    let width = number(row[2].split(' ').next().expect("a width"));
+    assert_eq!(row[2], "8 for each point");
+    assert_eq!(row[3], "2 of 4 bytes for each point");
+    assert_eq!(row[4..], ["", ""], "the limits of a row are said in words");
+    let width = 2 * 4;
     let rows = field_of(8).body;
     assert_eq!(rows.len(), 4 * width);
     assert_eq!(refusal_of(&example()), None);

@@ -51,3 +51,16 @@ fn counts_above_the_places() {
     assert_ne!(many(9, usize::MAX), many(9, 65));
     assert!(format!("{:?}", many(9, 65)).contains("speed_count: 65"));
 }
+
+/// All places count in each of these grids, so that one count alone tells them apart.
+#[test]
+fn one_count_that_differs() {
+    let with_counts = |speed_count, torque_count| Grid {
+        speed_count,
+        torque_count,
+        ..grid(9)
+    };
+    assert_eq!(with_counts(33, 65), with_counts(33, 65));
+    assert_ne!(with_counts(33, 65), with_counts(32, 65));
+    assert_ne!(with_counts(33, 65), with_counts(33, 64));
+}

@@ -1,7 +1,8 @@
 //! Every example of the repository: NAME.axle has its listing beside it in NAME.csv, or the line
-//! of its refusal in NAME.refusal.
+//! of its refusal in NAME.refusal. And the largest map.
 
 use super::*;
+use axle::Map;
 use std::path::Path;
 
 /// The examples' component data, each without its ending.
@@ -51,4 +52,30 @@ fn every_example_answers_as_the_file_beside_it_says() {
     }
     assert!(accepted_count > 0, "no accepted example");
     assert!(refused_count > 0, "no refused example");
+}
+
+/// A file of the map program's own example, which is the largest map.
+fn largest(name: &str) -> PathBuf {
+    let folder = PathBuf::from(env!("CARGO_MANIFEST_DIR")).join("../../crates/lossmap");
+    folder.join(name)
+}
+
+#[test]
+fn the_largest_map_has_room() {
+    let file = largest("stdin");
+    let mut data = std::fs::read(&file).expect("read");
+    assert_eq!(data.len(), 16_640, "the longest data");
+    let listing = std::fs::read_to_string(largest("stdout")).expect("read");
+    let axes = "accepted: 32 speeds from 1 to 3000 rpm, 64 torques from 0 to 50000 Nm\n";
+    for (word, answer) in [("list", listing.as_str()), ("check", axes)] {
+        assert_answered(run([OsStr::new(word), file.as_ref()]), answer);
+        assert_answered(run_with_input(&[word, "-"], &data), answer);
+    }
+    let map = Map::build(&data).expect("accepted");
+    assert_eq!(map.listing(), Ok(listing));
+    data.push(0);
+    for word in ["list", "check"] {
+        let output = run_with_input(&[word, "-"], &data);
+        assert_failed_with(output, 1, "axle: refused 12 at 16640: ");
+    }
 }

@@ -4,6 +4,8 @@ use super::*;
 use std::ffi::OsString;
 use std::fs::File;
 use std::os::unix::ffi::OsStringExt;
+use std::os::unix::io::OwnedFd;
+use std::os::unix::net::UnixStream;
 
 fn writable(name: &str) -> File {
     let mut options = File::options();
@@ -31,6 +33,23 @@ fn standard_input_that_cannot_be_read() {
         let output = axle(["list", "-"]).stdin(stream).output().expect("it runs");
         assert_failed_with(output, 2, "axle: cannot read standard input: ");
     }
+}
+
+/// Data that is whole so far is not taken where the next read fails.
+#[test]
+fn a_read_that_fails_after_some_data() {
+    let (mut written, read) = UnixStream::pair().expect("a pair");
+    read.set_nonblocking(true).expect("set");
+    let data = std::fs::read(examples_folder().join(STANDARD)).expect("read");
+    written.write_all(&data).expect("room for it");
+    let mut command = axle(["list", "-"]);
+    let output = command
+        .stdin(OwnedFd::from(read))
+        .output()
+        .expect("it runs");
+    assert_failed_with(output, 2, "axle: cannot read standard input: ");
+    // Open until here: the command met no end of its input.
+    drop(written);
 }
 
 #[test]

@@ -37,9 +37,8 @@ pub fn read(name: &OsStr) -> Result<Vec<u8>, Failure> {
 
 /// Writes all of the text to standard output.
 pub fn write(text: &[u8]) -> Result<(), Failure> {
-    let write = |mut output: File| output.write_all(text).and_then(|()| output.flush());
     file(io::stdout().as_fd(), closed::output())
-        .and_then(write)
+        .and_then(|mut output| output.write_all(text))
         .map_err(|error| failed("write standard output", error))
 }
 
