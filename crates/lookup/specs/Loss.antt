@@ -1,4 +1,4 @@
--- Document 01, "Loss at a point and nearest point": the cell of a point, and the weighted sum of the entries at its corners, rounded up.
+-- Document 01, "Loss at a point and nearest point": the cell of a point, and the weighted sum of the entries at its corners, rounded up once.
 use Prim.Native.Nat.{ℕ, zero, suc, _-_, _*_}
 use mathlib.Core.Bool.{Bool, _&&_, cond}
 use mathlib.Core.List.{List}

@@ -118,7 +118,7 @@ pub record SensorReading : Type 0 where
   pub sensor : Sensor
   pub torque : ℕ
 
--- U times a factor in thousandths, in whole grains: V where the factor is the ratio. With the factor 1,000 it is U.
+-- U times a factor in thousandths, rounded up to whole grains: V where the factor is the ratio, and W, which is U itself, where it is 1,000
 unfoldable pub scaledUncertainty : (factor U : ℕ) → ℕ
 scaledUncertainty factor U = quotientUp (U * factor) 1000
 
@@ -143,7 +143,7 @@ measuredLoss ratio input output = whole input ⊗ (ratio over 1000) ⊖ whole ou
 unfoldable pub lossIsUnderZero : (ratio input output : ℕ) → Bool
 lossIsUnderZero ratio input output = underZero (measuredLoss ratio input output)
 
--- the allowance, which is never less than 1 Nm
+-- the allowance: 5 % of the measured loss or 1 Nm at the wheel, whichever is more
 unfoldable pub allowance : (ratio input output : ℕ) → Fraction
 allowance ratio input output = larger ((5 over 100) ⊗ measuredLoss ratio input output) (whole 100)
 
@@ -151,7 +151,7 @@ allowance ratio input output = larger ((5 over 100) ⊗ measuredLoss ratio input
 abbrev pub fromGrains : ℕ → Fraction
 fromGrains T = T over 100
 
--- the entry from the loss uncertainty in grains; it is rounded up at the end alone
+-- the entry: the measured loss, and what the loss uncertainty, given in grains, has above the allowance, if anything; rounded up at the end alone
 unfoldable pub entryOf : (ratio input output uncertainty : ℕ) → ℕ
 entryOf ratio input output uncertainty =
     roundUp (measuredLoss ratio input output ⊕ partAbove (fromGrains uncertainty) (allowance ratio input output))

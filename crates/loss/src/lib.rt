@@ -223,7 +223,7 @@ pub fn measured_loss(ratio: u16, input: u32, output: u32) -> MeasuredLoss
     MeasuredLoss::Loss(gained - spent)
 }
 
-// The allowance of a row, in half micronewton metres: a twentieth of the measured loss, and no less than 1 Nm.
+// The allowance of a row, in half micronewton metres: a twentieth of the measured loss or 1 Nm at the wheel, whichever is more.
 pub fn allowance(ratio: u16, input: u32, output: u32) -> u64
     ensures { λ r. ⌜ Same (r over 20000) (allowance ratio input output) × (r < 2 ^ 48) ⌝ }
 {
