@@ -7,6 +7,11 @@
    the wheel. Entries and losses: hundredths of Nm. A question's speed: tenths of
    rpm; its torque: hundredths of Nm.
 
+   Component data says its kind: 1 standard, 2 measured with one sensor at the
+   output, 3 measured with one on each half-shaft, left and right, whose torques
+   together are the output torque. Every call takes all three alike. No accepted
+   data is longer than 24,853 bytes. docs/FORMAT.md has it byte by byte.
+
    Answers. `refusal` is 0 where the call is answered, else the number of the
    refusal (below), and `place` its place. Values stand apart from them, and a
    loss may be negative: test `refusal`, not the value. The values of a refused
@@ -26,9 +31,10 @@
        one due, or data that ends before the field; 3 a length that the field
        cannot have: the head's offset
      4 a number that is not in its range; 5 an axis number that does not rise;
-       6 a first torque above the step to the second; 7 a measured torque above
-       its sensor's nominal torque; 8 an output torque more than 5.00 Nm off its
-       axis torque: the number's offset
+       6 a first torque above the step to the second; 7 a measured torque (input,
+       output; of kind 3 input, left, right) above its sensor's nominal torque;
+       8 an output torque more than 5.00 Nm off its axis torque: the number's
+       offset, for 8 of kind 3 the left torque's
      9 a measured loss that is negative; 10 an entry above 10,000,000 hundredths
        of Nm: the row's offset
      11 fewer entries lent than the map has, or a lent buffer too short for a

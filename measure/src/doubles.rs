@@ -1,6 +1,6 @@
 //! The same rule in doubles, as a spreadsheet reckons it: every step of the rule has its cell, with its rounding, and a row's tests are columns beside it. Most answers are those of the rule; where a step comes out a little above or below a whole number they are not, which is why the library reckons in whole numbers.
 
-use crate::plain::{read, LINES};
+use crate::plain::{read, Component, LINES};
 use std::io::Write;
 
 /// The nine numbers of a sensor.
@@ -46,58 +46,81 @@ fn hundredths_up(loss: f64) -> f64 {
     (loss * 100.0).ceil() / 100.0
 }
 
+/// A row's torque at this place, in Nm.
+fn torque_at(row: &[u8], place: usize) -> f64 {
+    let start = 4 * place;
+    let bytes = [row[start], row[start + 1], row[start + 2], row[start + 3]];
+    f64::from(u32::from_be_bytes(bytes)) / 100.0
+}
+
 /// A row's entry in Nm, torques in Nm.
-fn measured_entry(
+#[inline]
+fn measured_entry<const OUTPUTS: usize>(
     ratio: f64,
     input_sensor: &Sensor,
-    output_sensor: &Sensor,
+    output_sensors: &[Sensor; OUTPUTS],
     torque: f64,
     row: &[u8],
 ) -> Option<f64> {
-    let input = f64::from(u32::from_be_bytes([row[0], row[1], row[2], row[3]])) / 100.0;
-    let output = f64::from(u32::from_be_bytes([row[4], row[5], row[6], row[7]])) / 100.0;
-    let loss = input * ratio - output;
+    let input = torque_at(row, 0);
     let at_wheel = (input_sensor.uncertainty(input) * ratio).ceil();
-    let at_output = output_sensor.uncertainty(output);
-    let uncertainty = (at_wheel * at_wheel + at_output * at_output).sqrt().ceil() / 1e4;
+    let mut measured = input <= input_sensor.nominal;
+    let (mut output, mut squares) = (0.0, at_wheel * at_wheel);
+    for (index, sensor) in output_sensors.iter().enumerate() {
+        let at_sensor = torque_at(row, 1 + index);
+        measured &= at_sensor <= sensor.nominal;
+        output += at_sensor;
+        let at_output = sensor.uncertainty(at_sensor);
+        squares += at_output * at_output;
+    }
+    let loss = input * ratio - output;
+    let uncertainty = squares.sqrt().ceil() / 1e4;
     let entry = hundredths_up(loss + (uncertainty - (0.05 * loss).max(1.0)).max(0.0));
-    let measured = input <= input_sensor.nominal && output <= output_sensor.nominal;
     let right = measured && (output - torque).abs() <= 5.0 && loss >= 0.0 && entry <= 1e5;
     right.then_some(entry)
+}
+
+fn measured_entries<const OUTPUTS: usize>(
+    data: &[u8],
+    component: &Component,
+    entries: &mut Vec<f64>,
+) -> Option<()> {
+    // The sensors' bodies of 18 bytes stand before the head of the rows, each behind its own.
+    let rows = data.len() - component.rows.len();
+    let sensor = |from_last: usize| Sensor::of(&data[rows - 21 * from_last..]);
+    let input = sensor(1 + OUTPUTS);
+    let outputs: [Sensor; OUTPUTS] = std::array::from_fn(|index| sensor(OUTPUTS - index));
+    let ratio = component.ratio as f64 / 1e3;
+    let torques = &component.torques;
+    for (index, row) in component.rows.chunks_exact(4 + 4 * OUTPUTS).enumerate() {
+        let torque = f64::from(torques[index % torques.len()]);
+        entries.push(measured_entry(ratio, &input, &outputs, torque, row)?);
+    }
+    Some(())
 }
 
 /// The entries of valid data, in Nm.
 #[inline(never)]
 pub fn build(data: &[u8]) -> Option<Vec<f64>> {
     let component = read(data)?;
-    let ratio = component.ratio as f64 / 1e3;
     let torques = &component.torques;
     let mut entries = Vec::with_capacity(component.speeds.len() * torques.len());
-    if component.kind == 1 {
-        let (efficiency, drag) = LINES[usize::from(component.line) - 1];
-        let (efficiency, drag) = (efficiency as f64, drag as f64);
-        for _ in &component.speeds {
-            for torque in torques {
-                let loss =
-                    drag + 20.0 * ratio + f64::from(*torque) * (100.0 - efficiency) / efficiency;
-                entries.push(hundredths_up(loss));
+    match component.kind {
+        2 => measured_entries::<1>(data, &component, &mut entries)?,
+        3 => measured_entries::<2>(data, &component, &mut entries)?,
+        _ => {
+            let ratio = component.ratio as f64 / 1e3;
+            let (efficiency, drag) = LINES[usize::from(component.line) - 1];
+            let (efficiency, drag) = (efficiency as f64, drag as f64);
+            for _ in &component.speeds {
+                for torque in torques {
+                    let loss = drag
+                        + 20.0 * ratio
+                        + f64::from(*torque) * (100.0 - efficiency) / efficiency;
+                    entries.push(hundredths_up(loss));
+                }
             }
         }
-        return Some(entries);
-    }
-    // The two bodies of 18 bytes stand before the head of the rows.
-    let rows = data.len() - component.rows.len();
-    let input_sensor = Sensor::of(&data[rows - 42..]);
-    let output_sensor = Sensor::of(&data[rows - 21..]);
-    for (index, row) in component.rows.chunks_exact(8).enumerate() {
-        let torque = f64::from(torques[index % torques.len()]);
-        entries.push(measured_entry(
-            ratio,
-            &input_sensor,
-            &output_sensor,
-            torque,
-            row,
-        )?);
     }
     Some(entries)
 }

@@ -50,7 +50,8 @@ pub struct Component<'data> {
     pub ratio: u64,
     pub speeds: Vec<u16>,
     pub torques: Vec<u16>,
-    sensors: Option<(Sensor, Sensor)>,
+    /// The input sensor, then the output sensors; none in standard data.
+    sensors: Vec<Sensor>,
     pub rows: &'data [u8],
 }
 
@@ -78,15 +79,21 @@ pub fn read(data: &[u8]) -> Option<Component<'_>> {
     let (line, rest) = field(rest, 2)?;
     let (ratio, rest) = field(rest, 3)?;
     let (speeds, rest) = field(rest, 4)?;
-    let (torques, rest) = field(rest, 5)?;
-    let (sensors, rows) = if kind[0] == 2 {
-        let (input, rest) = field(rest, 6)?;
-        let (output, rest) = field(rest, 7)?;
-        let (rows, _) = field(rest, 8)?;
-        (Some((Sensor::of(input), Sensor::of(output))), rows)
-    } else {
-        (None, rest)
+    let (torques, mut rest) = field(rest, 5)?;
+    let (sensor_tags, rows_tag): (&[u8], u8) = match kind[0] {
+        2 => (&[6, 7], 8),
+        3 => (&[6, 7, 9], 10),
+        _ => (&[], 0),
     };
+    let mut sensors = Vec::with_capacity(sensor_tags.len());
+    for tag in sensor_tags {
+        let (body, behind) = field(rest, *tag)?;
+        sensors.push(Sensor::of(body));
+        rest = behind;
+    }
+    if !sensors.is_empty() {
+        (rest, _) = field(rest, rows_tag)?;
+    }
     Some(Component {
         kind: kind[0],
         line: line[0],
@@ -94,7 +101,7 @@ pub fn read(data: &[u8]) -> Option<Component<'_>> {
         speeds: axis(speeds, 3_000)?,
         torques: axis(torques, 50_000)?,
         sensors,
-        rows,
+        rows: rest,
     })
 }
 
@@ -107,26 +114,59 @@ fn standard_entry(line: u8, ratio: u64, torque: u64) -> u32 {
     (constant + 1_000 * torque * (100 - efficiency)).div_ceil(10 * efficiency) as u32
 }
 
-fn measured_entry(
+/// The four bytes of a row's torque at this place.
+fn torque_at(row: &[u8], place: usize) -> u64 {
+    let start = 4 * place;
+    let bytes = [row[start], row[start + 1], row[start + 2], row[start + 3]];
+    u64::from(u32::from_be_bytes(bytes))
+}
+
+/// The entry of a row with the torque of the input and of each output sensor.
+#[inline]
+fn measured_entry<const OUTPUTS: usize>(
     ratio: u64,
     input_sensor: &Sensor,
-    output_sensor: &Sensor,
+    output_sensors: &[&Sensor; OUTPUTS],
     torque: u64,
     row: &[u8],
 ) -> Option<u32> {
-    let input = u64::from(u32::from_be_bytes([row[0], row[1], row[2], row[3]]));
-    let output = u64::from(u32::from_be_bytes([row[4], row[5], row[6], row[7]]));
-    let measured = input <= 100 * input_sensor.nominal && output <= 100 * output_sensor.nominal;
+    let input = torque_at(row, 0);
+    let mut measured = input <= 100 * input_sensor.nominal;
+    let mut output = 0;
+    for (index, sensor) in output_sensors.iter().enumerate() {
+        let at_sensor = torque_at(row, 1 + index);
+        measured &= at_sensor <= 100 * sensor.nominal;
+        output += at_sensor;
+    }
     if !measured || output.abs_diff(100 * torque) > 500 {
         return None;
     }
     let loss = (input * ratio).checked_sub(1_000 * output)?;
     let at_wheel = (input_sensor.uncertainty(input) * ratio).div_ceil(1_000);
-    let at_output = output_sensor.uncertainty(output);
-    let uncertainty = root_up(at_wheel * at_wheel + at_output * at_output);
+    let mut squares = at_wheel * at_wheel;
+    for (index, sensor) in output_sensors.iter().enumerate() {
+        let at_output = sensor.uncertainty(torque_at(row, 1 + index));
+        squares += at_output * at_output;
+    }
+    let uncertainty = root_up(squares);
     let above = (200 * uncertainty).saturating_sub(loss.max(2_000_000));
     let entry = (20 * loss + above).div_ceil(20_000);
     (entry <= u64::from(LARGEST_ENTRY)).then_some(entry as u32)
+}
+
+fn measured_entries<const OUTPUTS: usize>(
+    component: &Component,
+    input: &Sensor,
+    outputs: [&Sensor; OUTPUTS],
+    entries: &mut Vec<u32>,
+) -> Option<()> {
+    let torques = &component.torques;
+    for (index, row) in component.rows.chunks_exact(4 + 4 * OUTPUTS).enumerate() {
+        let torque = u64::from(torques[index % torques.len()]);
+        let entry = measured_entry(component.ratio, input, &outputs, torque, row)?;
+        entries.push(entry);
+    }
+    Some(())
 }
 
 /// The entries of valid data, in one pass over the rows.
@@ -135,8 +175,10 @@ pub fn build(data: &[u8]) -> Option<Vec<u32>> {
     let component = read(data)?;
     let torques = &component.torques;
     let mut entries = Vec::with_capacity(component.speeds.len() * torques.len());
-    match &component.sensors {
-        None => {
+    match &component.sensors[..] {
+        [input, output] => measured_entries(&component, input, [output], &mut entries)?,
+        [input, left, right] => measured_entries(&component, input, [left, right], &mut entries)?,
+        _ => {
             for _ in &component.speeds {
                 for torque in torques {
                     entries.push(standard_entry(
@@ -145,12 +187,6 @@ pub fn build(data: &[u8]) -> Option<Vec<u32>> {
                         u64::from(*torque),
                     ));
                 }
-            }
-        }
-        Some((input, output)) => {
-            for (index, row) in component.rows.chunks_exact(8).enumerate() {
-                let torque = u64::from(torques[index % torques.len()]);
-                entries.push(measured_entry(component.ratio, input, output, torque, row)?);
             }
         }
     }

@@ -3,8 +3,10 @@
 use measure::answers::{answer, Lent};
 use measure::{doubles, plain, roots};
 use reference::cases::{by_chance, Case};
-use reference::map;
+use reference::faults::row_faults;
+use reference::random::Source;
 use reference::reply::{reply, Seen};
+use reference::{map, valid};
 use std::path::PathBuf;
 
 fn example(name: &str) -> Vec<u8> {
@@ -16,7 +18,7 @@ fn example(name: &str) -> Vec<u8> {
 
 #[test]
 fn plain_rust_and_doubles_build_and_list_the_examples() {
-    for name in ["standard", "measured", "bench-run"] {
+    for name in ["standard", "measured", "half-shafts", "bench-run"] {
         let data = example(&format!("{name}.axle"));
         let listing = example(&format!("{name}.csv"));
         let axes = map::build(&data, 2_048).expect("the example is accepted");
@@ -33,6 +35,56 @@ fn plain_rust_and_doubles_build_and_list_the_examples() {
     }
     assert_eq!(plain::build(&example("refused.axle")), None);
     assert_eq!(plain::build(&example("cut-short.axle")), None);
+}
+
+/// Plain Rust has the entries of the second implementation, and none where it refuses; doubles are at most a hundredth off.
+fn expect_entries(data: &[u8]) -> bool {
+    let entries = map::build(data, 2_048).ok().map(|map| map.entries);
+    assert_eq!(plain::build(data), entries);
+    let (Some(entries), Some(in_doubles)) = (&entries, doubles::build(data)) else {
+        return entries.is_some();
+    };
+    assert_eq!(entries.len(), in_doubles.len());
+    for (entry, double) in entries.iter().zip(in_doubles) {
+        assert!((f64::from(*entry) / 100.0 - double).abs() < 0.011);
+    }
+    true
+}
+
+#[test]
+fn plain_rust_and_doubles_build_every_kind() {
+    for kind in 1..=3 {
+        let mut source = Source::new(12, u64::from(kind));
+        let mut accepted = 0;
+        for _ in 0..400 {
+            let (speeds, torques) = valid::grid_size(&mut source);
+            let data = valid::data_of(&mut source, kind, speeds, torques);
+            accepted += usize::from(expect_entries(&data.bytes()));
+        }
+        assert!(accepted > 200, "{accepted} of 400 of kind {kind}");
+    }
+}
+
+#[test]
+fn plain_rust_refuses_the_rows_that_are_refused() {
+    for kind in [2, 3] {
+        let mut source = Source::new(13, u64::from(kind));
+        let (mut accepted, mut refused) = (0, 0);
+        for _ in 0..50 {
+            let data = valid::data_of(&mut source, kind, 2, 3);
+            for faulty in row_faults(&data, source.index(6)) {
+                if expect_entries(&faulty) {
+                    accepted += 1;
+                } else {
+                    refused += 1;
+                }
+            }
+        }
+        assert!(
+            accepted > 100 && refused > 300,
+            "kind {kind}: {accepted} accepted, {refused} refused"
+        );
+    }
 }
 
 #[test]
@@ -78,5 +130,5 @@ fn the_library_answers_cases_in_the_text_of_the_second_implementation() {
             );
         }
     }
-    assert!(seen.measured_maps > 0 && seen.standard_maps > 0 && !seen.refusals.is_empty());
+    assert!((1..=3).all(|kind| seen.maps_of(kind) > 0) && !seen.refusals.is_empty());
 }

@@ -58,14 +58,14 @@ pub fn data() -> Data {
             rows.push(row(&mut source, *speed, *torque));
         }
     }
-    Data::of(vec![
+    let mut fields = vec![
         Field::new(1, vec![2]),
         Field::new(2, vec![1]),
         Field::of_numbers(3, &[RATIO]),
         Field::of_numbers(4, &speeds),
         Field::of_numbers(5, &torques),
-        Field::of_numbers(6, &INPUT_SENSOR),
-        Field::of_numbers(7, &OUTPUT_SENSOR),
-        Field::of_rows(&rows),
-    ])
+    ];
+    let sensors = [INPUT_SENSOR, OUTPUT_SENSOR];
+    fields.extend(Field::of_measurement(2, &sensors, &rows));
+    Data::of(fields)
 }

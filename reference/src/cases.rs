@@ -147,23 +147,23 @@ fn asked_map(source: &mut Source, map: LentMap) -> Case {
     }
 }
 
-/// Measured data of a map of any small size, and one of its rows.
-fn data_and_row(source: &mut Source) -> (Data, usize) {
-    let (speeds, torques) = (source.between(2, 8), source.between(2, 8));
-    let data = valid::data_of(source, 2, speeds as usize, torques as usize);
+/// Data of a measured kind of a map of any small size, and one of its rows.
+fn data_and_row(source: &mut Source, kind: u8) -> (Data, usize) {
+    let (speeds, torques) = (source.between(2, 6), source.between(2, 6));
+    let data = valid::data_of(source, kind, speeds as usize, torques as usize);
     (data, source.index((speeds * torques) as usize))
 }
 
 /// A row at each of the rows' limits, and just beyond it.
-fn row_limits(source: &mut Source) -> Vec<Vec<u8>> {
-    let (data, row) = data_and_row(source);
+fn row_limits(source: &mut Source, kind: u8) -> Vec<Vec<u8>> {
+    let (data, row) = data_and_row(source, kind);
     faults::row_faults(&data, row)
 }
 
 /// The same with a ratio and an input sensor that can give a loss above the largest entry: 10.
-fn entry_limits(source: &mut Source) -> Vec<Vec<u8>> {
+fn entry_limits(source: &mut Source, kind: u8) -> Vec<Vec<u8>> {
     loop {
-        let (mut data, row) = data_and_row(source);
+        let (mut data, row) = data_and_row(source, kind);
         if data.numbers(3)[0] >= 4_000 {
             if let Some(input_sensor) = data.field_mut(6) {
                 input_sensor.set_number(0, 50_000);
@@ -176,7 +176,7 @@ fn entry_limits(source: &mut Source) -> Vec<Vec<u8>> {
 /// Every fault at every kind of place, and cuts at every length.
 fn wrong_data(source: &mut Source) -> Vec<Vec<u8>> {
     let mut wrong = Vec::new();
-    for (kind, speeds, torques) in [(1, 2, 3), (2, 2, 2)] {
+    for (kind, speeds, torques) in [(1, 2, 3), (2, 2, 2), (3, 2, 2)] {
         let data = valid::data_of(source, kind, speeds, torques);
         wrong.extend(faults::every_cut(&data));
         wrong.extend(faults::every_fault(&data));
@@ -187,9 +187,11 @@ fn wrong_data(source: &mut Source) -> Vec<Vec<u8>> {
         wrong.push(faults::first_step_fault(&data));
         wrong.push(faults::with_length(&data, 4, 5));
     }
-    for _ in 0..24 {
-        wrong.extend(row_limits(source));
-        wrong.extend(entry_limits(source));
+    for kind in [2, 3] {
+        for _ in 0..12 {
+            wrong.extend(row_limits(source, kind));
+            wrong.extend(entry_limits(source, kind));
+        }
     }
     wrong
 }
@@ -197,7 +199,7 @@ fn wrong_data(source: &mut Source) -> Vec<Vec<u8>> {
 /// The largest maps, and lent maps broken in every way.
 fn maps(source: &mut Source) -> Vec<Case> {
     let mut cases = Vec::new();
-    for kind in [1, 2] {
+    for kind in [1, 2, 3] {
         let data = valid::data_of(source, kind, 32, 64);
         cases.push(Case::Program(data.bytes()));
         let data = valid::data_of(source, kind, 32, 64);
@@ -228,7 +230,7 @@ pub fn by_chance(seed: u64, number: u64, large_maps: bool) -> Case {
     let mut source = Source::new(seed, number);
     let source = &mut source;
     if large_maps && source.once_in(300) {
-        let kind = source.between(1, 2) as u8;
+        let kind = source.between(1, 3) as u8;
         let (speeds, torques) = (source.with_ends(2, 32), source.with_ends(2, 64));
         let data = valid::data_of(source, kind, speeds as usize, torques as usize);
         return asked_build(source, &data, 60);
@@ -256,7 +258,7 @@ pub fn by_chance(seed: u64, number: u64, large_maps: bool) -> Case {
 }
 
 fn chance_row_fault(source: &mut Source, data: &Data) -> Case {
-    let rows = data.numbers(8).len() / 2;
+    let rows = data.rows().len();
     if rows == 0 {
         return Case::of_data(faults::flipped_bit(source, data));
     }

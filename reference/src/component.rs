@@ -1,4 +1,5 @@
-//! Document 01, "Component data", with refusals 1 to 6 and 12 of "Refusals".
+//! Document 01, "Component data", with refusals 1 to 6 and 12 of "Refusals"; and
+//! kind 3 of request C-11.
 
 use crate::refusal::Refusal;
 use std::ops::RangeInclusive;
@@ -19,9 +20,33 @@ pub(crate) const TORQUE_RULE: AxisRule = AxisRule {
 };
 
 const SENSOR_LENGTH: usize = 18;
-pub const ROW_LENGTH: usize = 8;
+const TORQUE_LENGTH: usize = 4;
 
-/// The nine numbers of tag 6 or 7, in their order; document 01's letter of each.
+/// The tags of a measured kind that come after tag 6.
+#[derive(Clone, Copy, PartialEq, Eq, Debug)]
+pub struct MeasuredTags {
+    /// Those of the output sensors, in their order.
+    pub outputs: &'static [u8],
+    pub rows: u8,
+}
+
+/// Kind 2 has one output sensor, kind 3 the left and the right one; kind 1 is
+/// not measured.
+pub fn measured_tags(kind: u8) -> Option<MeasuredTags> {
+    match kind {
+        2 => Some(MeasuredTags {
+            outputs: &[7],
+            rows: 8,
+        }),
+        3 => Some(MeasuredTags {
+            outputs: &[7, 9],
+            rows: 10,
+        }),
+        _ => None,
+    }
+}
+
+/// The nine numbers of tag 6, 7 or 9, in their order; document 01's letter of each.
 #[derive(Clone, Copy, PartialEq, Eq, Debug)]
 pub struct Sensor {
     /// N, Nm.
@@ -61,24 +86,66 @@ impl Sensor {
     }
 }
 
-/// One row of tag 8, both torques in hundredths of Nm.
-#[derive(Clone, Copy, PartialEq, Eq, Debug)]
+/// One row of tag 8 or 10, its torques in hundredths of Nm.
+#[derive(Clone, PartialEq, Eq, Debug)]
 pub struct Row {
     pub input: u32,
-    pub output: u32,
+    /// One for each output sensor.
+    pub outputs: Vec<u32>,
+}
+
+impl Row {
+    /// The output torque: the sum of what the output sensors have. Two highest
+    /// numbers of four bytes are above a u32.
+    pub fn output(&self) -> u64 {
+        self.outputs.iter().copied().map(u64::from).sum()
+    }
+}
+
+/// What measured data has after tag 5.
+#[derive(Clone, PartialEq, Eq, Debug)]
+pub struct Measured {
+    pub input: Sensor,
+    /// One for kind 2; left, then right for kind 3.
+    pub outputs: Vec<Sensor>,
+    pub rows: Vec<Row>,
+    /// Offset of the first row in the data.
+    pub rows_start: usize,
+}
+
+impl Measured {
+    /// How many bytes a row has: the input torque, and one torque for each output sensor.
+    pub fn row_length(&self) -> usize {
+        TORQUE_LENGTH * (1 + self.outputs.len())
+    }
+
+    /// Where the row of this index starts in the data.
+    pub fn row_place(&self, index: usize) -> usize {
+        self.rows_start + self.row_length() * index
+    }
+}
+
+/// Where the torque of this output sensor stands in a row that starts at this place.
+pub fn output_place(row_place: usize, output_index: usize) -> usize {
+    row_place + TORQUE_LENGTH * (1 + output_index)
 }
 
 /// The kind of the data, with the fields that only this kind has.
 #[derive(Clone, PartialEq, Eq, Debug)]
 pub enum Kind {
     Standard,
-    Measured {
-        input: Sensor,
-        output: Sensor,
-        rows: Vec<Row>,
-        /// Offset of the first row in the data.
-        rows_start: usize,
-    },
+    Measured(Measured),
+}
+
+impl Kind {
+    /// The number of tag 1.
+    pub fn number(&self) -> u8 {
+        match self {
+            Kind::Standard => 1,
+            Kind::Measured(measured) if measured.outputs.len() == 1 => 2,
+            Kind::Measured(_) => 3,
+        }
+    }
 }
 
 /// Component data as read; the rows of a measured one are not yet tested.
@@ -199,13 +266,17 @@ impl Field<'_> {
         })
     }
 
-    fn rows(self) -> Vec<Row> {
+    /// Rows of so many bytes.
+    fn rows(self, row_length: usize) -> Vec<Row> {
         let torque = |bytes: &[u8]| u32::from_be_bytes([bytes[0], bytes[1], bytes[2], bytes[3]]);
         self.body
-            .chunks_exact(ROW_LENGTH)
-            .map(|row| Row {
-                input: torque(&row[..4]),
-                output: torque(&row[4..]),
+            .chunks_exact(row_length)
+            .map(|row| {
+                let (input, outputs) = row.split_at(TORQUE_LENGTH);
+                Row {
+                    input: torque(input),
+                    outputs: outputs.chunks_exact(TORQUE_LENGTH).map(torque).collect(),
+                }
             })
             .collect()
     }
@@ -215,7 +286,7 @@ impl Field<'_> {
 pub fn read(data: &[u8]) -> Result<Component, Refusal> {
     let start = Cursor { data, offset: 0 };
     let (field, cursor) = start.field(1, |length| length == 1)?;
-    let kind_number = field.byte_within(1..=2)?;
+    let kind_number = field.byte_within(1..=3)?;
     let (field, cursor) = cursor.field(2, |length| length == 1)?;
     let line = field.byte_within(1..=5)?;
     let (field, cursor) = cursor.field(3, |length| length == 2)?;
@@ -227,10 +298,9 @@ pub fn read(data: &[u8]) -> Result<Component, Refusal> {
     if !first_torque_allowed(&torques) {
         return Err(Refusal::at(6, field.start));
     }
-    let (kind, cursor) = if kind_number == 1 {
-        (Kind::Standard, cursor)
-    } else {
-        read_measured(cursor, speeds.len() * torques.len())?
+    let (kind, cursor) = match measured_tags(kind_number) {
+        None => (Kind::Standard, cursor),
+        Some(tags) => read_measured(cursor, tags, speeds.len() * torques.len())?,
     };
     cursor.end()?;
     Ok(Component {
@@ -242,36 +312,42 @@ pub fn read(data: &[u8]) -> Result<Component, Refusal> {
     })
 }
 
-fn read_measured(cursor: Cursor<'_>, points: usize) -> Result<(Kind, Cursor<'_>), Refusal> {
-    let (field, cursor) = cursor.field(6, |length| length == SENSOR_LENGTH)?;
-    let input = field.sensor()?;
-    let (field, cursor) = cursor.field(7, |length| length == SENSOR_LENGTH)?;
-    let output = field.sensor()?;
-    let (field, cursor) = cursor.field(8, |length| length == ROW_LENGTH * points)?;
-    let kind = Kind::Measured {
-        input,
-        output,
-        rows: field.rows(),
-        rows_start: field.start,
+/// Tag 6, then the output sensors and the rows of the kind.
+fn read_measured(
+    cursor: Cursor<'_>,
+    tags: MeasuredTags,
+    points: usize,
+) -> Result<(Kind, Cursor<'_>), Refusal> {
+    let (field, mut cursor) = cursor.field(6, |length| length == SENSOR_LENGTH)?;
+    let mut measured = Measured {
+        input: field.sensor()?,
+        outputs: Vec::new(),
+        rows: Vec::new(),
+        rows_start: 0,
     };
-    Ok((kind, cursor))
+    for tag in tags.outputs {
+        let (field, behind) = cursor.field(*tag, |length| length == SENSOR_LENGTH)?;
+        measured.outputs.push(field.sensor()?);
+        cursor = behind;
+    }
+    let row_length = measured.row_length();
+    let (field, cursor) = cursor.field(tags.rows, |length| length == row_length * points)?;
+    measured.rows = field.rows(row_length);
+    measured.rows_start = field.start;
+    Ok((Kind::Measured(measured), cursor))
 }
 
 /// Where the body of the field with this tag starts, in data that reads and has it.
 pub fn body_start(data: &[u8], tag: u8) -> Option<usize> {
     let mut cursor = Cursor { data, offset: 0 };
-    let mut start = None;
-    for due in 1..=tag {
-        let (field, behind) = cursor.field(due, |_| true).ok()?;
-        start = Some(field.start);
+    loop {
+        let found = *data.get(cursor.offset)?;
+        let (field, behind) = cursor.field(found, |_| true).ok()?;
+        if found == tag {
+            return Some(field.start);
+        }
         cursor = behind;
     }
-    start
-}
-
-/// Where the row of this index starts in the data.
-pub fn row_place(rows_start: usize, index: usize) -> usize {
-    rows_start + ROW_LENGTH * index
 }
 
 fn axis_length(rule: &AxisRule, length: usize) -> bool {

@@ -1,5 +1,8 @@
 //! Component data as fields that can be changed one by one, right or wrong, and laid out as bytes.
 
+use crate::component::measured_tags;
+use std::iter;
+
 /// The least and the largest value of each of a sensor's nine numbers.
 pub const SENSOR_RANGES: [(u16, u16); 9] = [
     (1, 50_000),
@@ -34,20 +37,36 @@ impl Field {
         Field::new(tag, numbers.iter().flat_map(|n| n.to_be_bytes()).collect())
     }
 
-    /// Tag 8: input and output torque of each row.
-    pub fn of_rows(rows: &[[u32; 2]]) -> Field {
+    /// Tag 8 or 10: the torques of each row.
+    fn of_rows(tag: u8, rows: &[impl AsRef<[u32]>]) -> Field {
         let bytes = rows
             .iter()
-            .flatten()
+            .flat_map(|row| row.as_ref())
             .flat_map(|torque| torque.to_be_bytes());
-        Field::new(8, bytes.collect())
+        Field::new(tag, bytes.collect())
+    }
+
+    /// What a measured kind has after tag 5: its sensors, the input's first, and rows with a torque for each of them.
+    pub fn of_measurement(
+        kind: u8,
+        sensors: &[[u16; 9]],
+        rows: &[impl AsRef<[u32]>],
+    ) -> Vec<Field> {
+        let tags = measured_tags(kind).expect("a measured kind");
+        let sensor_tags = iter::once(&6).chain(tags.outputs);
+        let mut fields: Vec<Field> = sensor_tags
+            .zip(sensors)
+            .map(|(tag, numbers)| Field::of_numbers(*tag, numbers))
+            .collect();
+        fields.push(Field::of_rows(tags.rows, rows));
+        fields
     }
 
     /// How many bytes a number of the field has.
     pub fn width(&self) -> usize {
         match self.tag {
             1 | 2 => 1,
-            8 => 4,
+            8 | 10 => 4,
             _ => 2,
         }
     }
@@ -72,12 +91,12 @@ impl Field {
     /// The range of a number of the field; a row's numbers have none.
     pub fn range(&self, index: usize) -> Option<(u32, u32)> {
         let (lowest, highest) = match self.tag {
-            1 => (1, 2),
+            1 => (1, 3),
             2 => (1, 5),
             3 => (1_000, 20_000),
             4 => (1, 3_000),
             5 => (0, 50_000),
-            6 | 7 => SENSOR_RANGES[index],
+            6 | 7 | 9 => SENSOR_RANGES[index],
             _ => return None,
         };
         Some((u32::from(lowest), u32::from(highest)))
@@ -121,5 +140,20 @@ impl Data {
         found.map_or(Vec::new(), |field| {
             (0..field.number_count()).map(|i| field.number(i)).collect()
         })
+    }
+
+    /// The number of tag 1 in valid data.
+    pub fn kind(&self) -> u8 {
+        self.numbers(1)[0] as u8
+    }
+
+    /// The torques of each row, the input's first; none in standard data.
+    pub fn rows(&self) -> Vec<Vec<u32>> {
+        let Some(tags) = measured_tags(self.kind()) else {
+            return Vec::new();
+        };
+        let torques = self.numbers(tags.rows);
+        let rows = torques.chunks_exact(1 + tags.outputs.len());
+        rows.map(<[u32]>::to_vec).collect()
     }
 }

@@ -1,13 +1,14 @@
-//! Document 01, "Accuracy over whole numbers": exact entries, exact losses at
-//! points, and the check of the limits of demand 3.
+//! Document 01, "Accuracy over whole numbers", over three kinds (request C-11):
+//! exact entries, exact losses at points, and the check of the limits of demand 3.
 //!
 //! All exact entries of one component stand over one denominator. A root that
 //! is not a whole number over it is held between two neighbouring ones.
 
-use crate::component::{Component, Kind, Row, Sensor};
+use crate::component::{Component, Kind, Measured, Row, Sensor};
 use crate::loss;
 use crate::wide::Wide;
 use std::cmp::Ordering;
+use std::iter;
 
 /// What is found of one entry or answer z against its exact value S.
 #[derive(Clone, Copy, PartialEq, Eq, Debug)]
@@ -79,12 +80,7 @@ impl ExactMap {
     pub fn new(component: &Component) -> ExactMap {
         let (denominator, entries) = match &component.kind {
             Kind::Standard => standard_entries(component),
-            Kind::Measured {
-                input,
-                output,
-                rows,
-                ..
-            } => measured_entries(component.ratio, input, output, rows),
+            Kind::Measured(measured) => measured_entries(component.ratio, measured),
         };
         ExactMap {
             speeds: component.speeds.clone(),
@@ -310,31 +306,69 @@ fn standard_entries(component: &Component) -> (Wide, Vec<Bracket>) {
     (Wide::from(denominator), row.repeat(component.speeds.len()))
 }
 
-/// Kind 2. A root in grains, over 1,000 x both sensors' denominators, is the
-/// root of 4/3 T with T whole: the root of 12 T over three times as much. A
+/// Kinds 2 and 3. A root in grains, over 1,000 x all sensors' denominators, is
+/// the root of 4/3 T with T whole: the root of 12 T over three times as much. A
 /// hundredth of Nm is a hundred grains, hence 300.
-fn measured_entries(
-    ratio: u16,
-    input: &Sensor,
-    output: &Sensor,
-    rows: &[Row],
-) -> (Wide, Vec<Bracket>) {
-    let input_denominator = sensor_denominator(input);
-    let output_denominator = sensor_denominator(output);
-    let grain_denominator = Wide::from(input_denominator) * output_denominator * 1_000;
-    let root_denominator = grain_denominator * 300 * REFINEMENT;
-    let input_factor = Wide::from(output_denominator) * u128::from(ratio);
-    let output_factor = Wide::from(input_denominator) * 1_000;
-    let entries = rows
+fn measured_entries(ratio: u16, measured: &Measured) -> (Wide, Vec<Bracket>) {
+    let sensors = sensors_of(measured);
+    let root_denominator = denominators(&sensors) * 1_000 * 300 * REFINEMENT;
+    let scaled = scaled_sensors(ratio, &sensors);
+    let entries = measured
+        .rows
         .iter()
         .map(|row| {
-            let total = sensor_square(input, row.input) * input_factor * input_factor
-                + sensor_square(output, row.output) * output_factor * output_factor;
+            let torques = iter::once(&row.input).chain(&row.outputs);
+            let total = scaled
+                .iter()
+                .zip(torques)
+                .map(|(scaled, torque)| scaled.square(*torque))
+                .fold(Wide::ZERO, |sum, square| sum + square);
             let root = root_bracket(total * 12 * REFINEMENT * REFINEMENT);
             measured_entry(ratio, row, root_denominator, &root)
         })
         .collect();
     (root_denominator * 20_000, entries)
+}
+
+/// A sensor, and what brings its square to the denominator that all share.
+struct ScaledSensor<'data> {
+    sensor: &'data Sensor,
+    factor: Wide,
+}
+
+impl ScaledSensor<'_> {
+    fn square(&self, torque: u32) -> Wide {
+        sensor_square(self.sensor, torque) * self.factor
+    }
+}
+
+/// The input sensor, then the output sensors.
+fn sensors_of(measured: &Measured) -> Vec<&Sensor> {
+    iter::once(&measured.input)
+        .chain(&measured.outputs)
+        .collect()
+}
+
+/// Each sensor with the others' denominators and its thousandths at the wheel,
+/// all squared. The ratio brings the first one, the input sensor, to the wheel.
+fn scaled_sensors<'data>(ratio: u16, sensors: &[&'data Sensor]) -> Vec<ScaledSensor<'data>> {
+    let mut scaled = Vec::new();
+    for (place, sensor) in sensors.iter().enumerate() {
+        let at_wheel = if place == 0 { u128::from(ratio) } else { 1_000 };
+        let others = denominators(&sensors[..place]) * denominators(&sensors[place + 1..]);
+        let thousandths = others * at_wheel;
+        scaled.push(ScaledSensor {
+            sensor,
+            factor: thousandths * thousandths,
+        });
+    }
+    scaled
+}
+
+/// The sensors' denominators, one times the other.
+fn denominators(sensors: &[&Sensor]) -> Wide {
+    let one_by_one = sensors.iter().map(|sensor| sensor_denominator(sensor));
+    one_by_one.fold(Wide::from(1), |product, denominator| product * denominator)
 }
 
 /// Loss and the part of the root above the allowance, over 20,000 times the

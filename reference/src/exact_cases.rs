@@ -4,15 +4,15 @@ use crate::component;
 use crate::data::{Data, Field};
 use crate::exact::{Bounds, ExactMap};
 
-/// One measured row, with all that its entry depends on.
+/// One measured row, with all that its entry depends on. Its kind is 2 for two sensors, 3 for three.
 #[derive(Clone, PartialEq, Eq, Debug)]
-pub struct MeasuredCase {
+pub struct MeasuredCase<const SENSORS: usize> {
     /// Thousandths.
     pub ratio: u16,
-    /// N, w, z, c, k, s, p, d and R of the input sensor, then of the output sensor.
-    pub sensors: [[u16; 9]; 2],
-    /// Input and output torque, hundredths of Nm.
-    pub torques: [u32; 2],
+    /// N, w, z, c, k, s, p, d and R of the input sensor, then of each output sensor.
+    pub sensors: [[u16; 9]; SENSORS],
+    /// The torque of each sensor, hundredths of Nm.
+    pub torques: [u32; SENSORS],
 }
 
 /// One entry of the standard rule.
@@ -25,9 +25,9 @@ pub struct StandardCase {
     pub torque: u16,
 }
 
-/// Every influence of both sensors is at work, and no part is a whole number of grains.
+/// Every influence of all sensors is at work, and no part is a whole number of grains.
 /// The root is above an allowance of 1 Nm in the first three, above 5 % of the loss in the next two, and below it in the last.
-pub const MEASURED: [MeasuredCase; 6] = [
+pub const MEASURED: [MeasuredCase<2>; 6] = [
     MeasuredCase {
         ratio: 1_637,
         sensors: [
@@ -78,6 +78,56 @@ pub const MEASURED: [MeasuredCase; 6] = [
     },
 ];
 
+/// The same with the output measured at two half-shafts: input, left and right sensor.
+/// The root is above an allowance of 1 Nm in the first two, above 5 % of the loss in the next two, and below it in the last.
+pub const HALF_SHAFTS: [MeasuredCase<3>; 5] = [
+    MeasuredCase {
+        ratio: 1_483,
+        sensors: [
+            [3_076, 335, 83, 2_007, 5_284, 2_417, 171, 404, 25],
+            [1_808, 6_994, 7_484, 2_563, 5_072, 1_774, 457, 71, 54],
+            [2_639, 812, 1_628, 979, 1_345, 1_353, 307, 364, 92],
+        ],
+        torques: [184_198, 119_694, 152_171],
+    },
+    MeasuredCase {
+        ratio: 5_279,
+        sensors: [
+            [3_226, 282, 126, 1_016, 5_315, 468, 293, 149, 13],
+            [6_296, 6_234, 2_029, 359, 2_034, 452, 493, 106, 76],
+            [9_682, 633, 299, 819, 5_365, 661, 305, 228, 68],
+        ],
+        torques: [173_273, 390_851, 522_156],
+    },
+    MeasuredCase {
+        ratio: 3_617,
+        sensors: [
+            [3_219, 648, 361, 843, 3_711, 382, 498, 423, 62],
+            [7_166, 972, 352, 621, 1_614, 649, 293, 433, 69],
+            [4_015, 4_717, 2_727, 4_399, 6_478, 959, 378, 133, 82],
+        ],
+        torques: [182_228, 436_176, 218_141],
+    },
+    MeasuredCase {
+        ratio: 9_413,
+        sensors: [
+            [2_837, 1_236, 697, 144, 1_344, 357, 245, 265, 93],
+            [12_923, 492, 589, 1_123, 5_346, 372, 347, 394, 64],
+            [11_467, 757, 457, 724, 1_529, 2_338, 236, 149, 12],
+        ],
+        torques: [192_698, 1_127_527, 676_438],
+    },
+    MeasuredCase {
+        ratio: 14_629,
+        sensors: [
+            [3_129, 175, 257, 246, 3_611, 156, 688, 205, 57],
+            [19_126, 2_768, 1_245, 2_071, 6_922, 427, 397, 186, 97],
+            [26_945, 533, 302, 1_575, 7_281, 678, 218, 271, 52],
+        ],
+        torques: [234_605, 1_235_207, 2_141_826],
+    },
+];
+
 const fn standard(line: u8, ratio: u16, torque: u16) -> StandardCase {
     StandardCase {
         line,
@@ -100,17 +150,21 @@ pub const STANDARD: [StandardCase; 10] = [
     standard(5, 7_517, 48_731),
 ];
 
-impl MeasuredCase {
+impl<const SENSORS: usize> MeasuredCase<SENSORS> {
+    /// The sum of what the output sensors have.
+    pub fn output(&self) -> u32 {
+        self.torques[1..].iter().sum()
+    }
+
     /// Component data with this row at the second torque of both speeds, where the axis has the nearest whole Nm.
-    /// At the first torque, 0, the row is 0 and 0.
+    /// At the first torque, 0, all torques of the row are 0.
     pub fn data(&self) -> Vec<u8> {
-        let axis_torque = (self.torques[1] + 50) / 100;
+        let axis_torque = (self.output() + 50) / 100;
         let axis_torque = u16::try_from(axis_torque).expect("an axis torque is at most 50,000 Nm");
-        let mut fields = common_fields(2, 1, self.ratio, axis_torque);
-        fields.push(Field::of_numbers(6, &self.sensors[0]));
-        fields.push(Field::of_numbers(7, &self.sensors[1]));
-        let rows = [[0, 0], self.torques].repeat(SPEEDS.len());
-        fields.push(Field::of_rows(&rows));
+        let kind = SENSORS as u8;
+        let mut fields = common_fields(kind, 1, self.ratio, axis_torque);
+        let rows = [[0; SENSORS], self.torques].repeat(SPEEDS.len());
+        fields.extend(Field::of_measurement(kind, &self.sensors, &rows));
         Data::of(fields).bytes()
     }
 
@@ -118,15 +172,15 @@ impl MeasuredCase {
         second_torque_bounds(&self.data())
     }
 
-    /// `measured`, the ratio, both sensors, both torques, and the bounds.
+    /// `measured`, the ratio, each sensor, the torques, and the bounds.
     pub fn printed(&self) -> String {
-        let [input, output] = self.sensors.map(|numbers| separated(&numbers));
+        let mut text = format!("measured {}", self.ratio);
+        for numbers in &self.sensors {
+            text += &format!("; {}", separated(numbers));
+        }
         let torques = separated(&self.torques);
         let bounds = printed_bounds(&self.bounds());
-        format!(
-            "measured {}; {input}; {output}; {torques}; {bounds}",
-            self.ratio
-        )
+        format!("{text}; {torques}; {bounds}")
     }
 }
 
@@ -152,7 +206,7 @@ impl StandardCase {
 
 const SPEEDS: [u16; 2] = [100, 200];
 
-/// The fields that both kinds have, with the torques 0 and this one.
+/// The fields that every kind has, with the torques 0 and this one.
 fn common_fields(kind: u8, line: u8, ratio: u16, torque: u16) -> Vec<Field> {
     vec![
         Field::new(1, vec![kind]),

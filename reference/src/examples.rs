@@ -27,6 +27,7 @@ fn examples() -> Vec<Example> {
     vec![
         example("standard", standard()),
         example("measured", measured(110_000)),
+        example("half-shafts", half_shafts()),
         example("refused", measured(99_999)),
         example("bench-run", bench_run),
         example("cut-short", cut_short),
@@ -43,7 +44,7 @@ impl Example {
     }
 }
 
-/// The fields that both kinds have, at 100 rpm and 200 rpm.
+/// The fields that every kind has, at 100 rpm and 200 rpm.
 fn common_fields(kind: u8, torques: &[u16]) -> Vec<Field> {
     vec![
         Field::new(1, vec![kind]),
@@ -59,13 +60,30 @@ fn standard() -> Vec<u8> {
     Data::of(common_fields(1, &[0, 1_000])).bytes()
 }
 
+/// A sensor of this nominal torque that is uncertain by its calibration alone, as in "Reckoned by hand".
+fn calibrated(nominal: u16) -> [u16; 9] {
+    [nominal, 0, 0, 100, 1_000, 0, 0, 0, 10]
+}
+
 /// Two torques with the sensors of "Reckoned by hand", and this input torque at the second, in hundredths of Nm.
 fn measured(input: u32) -> Vec<u8> {
-    let sensor = |nominal| [nominal, 0, 0, 100, 1_000, 0, 0, 0, 10];
+    let sensors = [10_000, 40_000].map(calibrated);
     let rows = [[34_000, 100_000], [input, 300_000]].repeat(2);
     let mut fields = common_fields(2, &[1_000, 3_000]);
-    fields.push(Field::of_numbers(6, &sensor(10_000)));
-    fields.push(Field::of_numbers(7, &sensor(40_000)));
-    fields.push(Field::of_rows(&rows));
+    fields.extend(Field::of_measurement(2, &sensors, &rows));
+    Data::of(fields).bytes()
+}
+
+/// The output measured at two half-shafts, which share it differently in each row. The loss uncertainty is 9.00 Nm.
+fn half_shafts() -> Vec<u8> {
+    let sensors = [10_000, 30_000, 15_000].map(calibrated);
+    let rows = [
+        [34_000, 60_000, 40_000],
+        [102_000, 200_000, 100_000],
+        [34_500, 35_000, 65_200],
+        [110_000, 120_000, 180_000],
+    ];
+    let mut fields = common_fields(3, &[1_000, 3_000]);
+    fields.extend(Field::of_measurement(3, &sensors, &rows));
     Data::of(fields).bytes()
 }

@@ -1,5 +1,6 @@
 //! Wrong component data: each fault of the table at each place where it can stand, and chance damage.
 
+use crate::component::measured_tags;
 use crate::data::{Data, Field};
 use crate::random::Source;
 
@@ -11,6 +12,7 @@ pub fn every_fault(data: &Data) -> Vec<Vec<u8>> {
         faulty.extend(length_faults(data, place));
         faulty.extend(number_faults(data, place));
     }
+    faulty.extend(kind_faults(data));
     faulty.extend(axis_faults(data));
     faulty.extend(extra_bytes(data));
     faulty
@@ -30,10 +32,10 @@ fn changed(data: &Data, change: impl FnOnce(&mut Data)) -> Vec<u8> {
 
 /// Another tag; the field missing, doubled, or swapped with the next.
 fn field_faults(data: &Data, place: usize) -> Vec<Vec<u8>> {
-    let tag = data.fields[place].tag;
-    let mut faulty: Vec<Vec<u8>> = [0, tag - 1, tag + 1, 255]
+    let mut faulty: Vec<Vec<u8>> = other_tags(data.fields[place].tag)
+        .into_iter()
         .map(|wrong| changed(data, |d| d.fields[place].tag = wrong))
-        .into();
+        .collect();
     faulty.push(changed(data, |d| drop(d.fields.remove(place))));
     faulty.push(changed(data, |d| {
         d.fields.insert(place, d.fields[place].clone())
@@ -44,10 +46,22 @@ fn field_faults(data: &Data, place: usize) -> Vec<Vec<u8>> {
     faulty
 }
 
+/// Tags near to this one, the ends of a byte, and where the kinds have different fields all of these.
+fn other_tags(tag: u8) -> Vec<u8> {
+    let mut tags = vec![0, tag - 1, tag + 1, 255];
+    if tag > 6 {
+        tags.extend(7..=10);
+    }
+    tags.sort_unstable();
+    tags.dedup();
+    tags.retain(|other| *other != tag);
+    tags
+}
+
 /// Lengths that do not fit the body, or that no field of the tag may have.
 fn length_faults(data: &Data, place: usize) -> Vec<Vec<u8>> {
     let length = data.fields[place].length;
-    [
+    let mut wrong = vec![
         0,
         1,
         2,
@@ -58,9 +72,15 @@ fn length_faults(data: &Data, place: usize) -> Vec<Vec<u8>> {
         66,
         130,
         65_535,
-    ]
-    .map(|wrong| with_length(data, place, wrong))
-    .into()
+    ];
+    if data.fields[place].width() == 4 {
+        // A torque more or less, and rows of three torques where two are due, or of two where three are.
+        wrong.extend([length - 4, length + 4, length / 2 * 3, length / 3 * 2]);
+    }
+    wrong
+        .into_iter()
+        .map(|wrong| with_length(data, place, wrong))
+        .collect()
 }
 
 /// The data with another length at a field's head, its body as it was.
@@ -84,6 +104,16 @@ fn number_faults(data: &Data, place: usize) -> Vec<Vec<u8>> {
         }
     }
     faulty
+}
+
+/// The data under the number of each other kind.
+fn kind_faults(data: &Data) -> Vec<Vec<u8>> {
+    let mut others = vec![1, 2, 3];
+    others.retain(|kind| *kind != u32::from(data.kind()));
+    others
+        .into_iter()
+        .map(|kind| changed(data, |d| set(d, 1, 0, kind)))
+        .collect()
 }
 
 /// Each axis number equal to the one before or below it, and a first torque above the first step.
@@ -110,10 +140,16 @@ pub fn first_step_fault(data: &Data) -> Vec<u8> {
 /// Bytes after the last field: few, many, or another field.
 fn extra_bytes(data: &Data) -> Vec<Vec<u8>> {
     let more = Field::of_numbers(6, &[100; 9]);
-    let mut faulty: Vec<Vec<u8>> = [vec![0], vec![8, 0], vec![9, 0, 0], vec![255; 40]]
-        .into_iter()
-        .map(|rest| changed(data, |d| d.rest = rest))
-        .collect();
+    let mut faulty: Vec<Vec<u8>> = [
+        vec![0],
+        vec![8, 0],
+        vec![9, 0, 0],
+        vec![10, 0, 0],
+        vec![255; 40],
+    ]
+    .into_iter()
+    .map(|rest| changed(data, |d| d.rest = rest))
+    .collect();
     faulty.push(changed(data, |d| d.fields.push(more)));
     faulty
 }
@@ -126,32 +162,79 @@ fn set(data: &mut Data, tag: u8, index: usize, number: u32) {
 
 /// Measured data with one row at each limit of the rows and just beyond it, where refusals 7 to 10 begin.
 pub fn row_faults(data: &Data, row: usize) -> Vec<Vec<u8>> {
+    let tags = measured_tags(data.kind()).expect("measured data");
     let torques = data.numbers(5);
-    let ratio = data.numbers(3)[0];
     let aim = 100 * torques[row % torques.len()];
-    let highest = |tag: u8| 100 * data.numbers(tag)[0];
-    let output = data.numbers(8)[2 * row + 1];
-    let least = (u64::from(output) * 1_000).div_ceil(u64::from(ratio)) as u32;
-    let limit = (u64::from(output) + 10_000_000) * 1_000 / u64::from(ratio);
+    let before = data.rows().swap_remove(row);
+    let with = |place: usize, torque: u32| {
+        let mut torques = before.clone();
+        torques[place] = torque;
+        torques
+    };
+    let outputs = &before[1..];
+    let sum: u32 = outputs.iter().sum();
+    let mut rows: Vec<Vec<u32>> = input_limits(data, sum).map(|torque| with(0, torque)).into();
+    for (index, (tag, output)) in tags.outputs.iter().zip(outputs).enumerate() {
+        let highest = 100 * data.numbers(*tag)[0];
+        let limits = output_limits(highest, aim, sum - output);
+        rows.extend(limits.map(|torque| with(1 + index, torque)));
+    }
+    if let &[input, _, _] = before.as_slice() {
+        rows.extend(side_limits(input, sum, aim));
+    }
+    let in_place = |torques: &Vec<u32>| changed(data, |d| set_row(d, tags.rows, row, torques));
+    rows.iter().map(in_place).collect()
+}
+
+/// Input torques at the sensor's limit, at a loss of zero and at the largest entry, for an output torque.
+fn input_limits(data: &Data, output: u32) -> [u32; 7] {
+    let (ratio, output) = (u64::from(data.numbers(3)[0]), u64::from(output));
+    let highest = 100 * data.numbers(6)[0];
+    let least = (output * 1_000).div_ceil(ratio) as u32;
+    let limit = (output + 10_000_000) * 1_000 / ratio;
     let limit = limit.min(u64::from(u32::MAX - 1)) as u32;
-    let inputs = [
-        highest(6),
-        highest(6) + 1,
+    [
+        highest,
+        highest + 1,
         u32::MAX,
         least,
         least.saturating_sub(1),
         limit,
         limit + 1,
-    ];
-    let outputs = [highest(7), highest(7) + 1, u32::MAX, aim + 500, aim + 501];
-    let below = [aim.saturating_sub(500), aim.saturating_sub(501)];
-    let mut faulty: Vec<Vec<u8>> = inputs
-        .map(|input| changed(data, |d| set(d, 8, 2 * row, input)))
-        .into();
-    for output in outputs.into_iter().chain(below) {
-        faulty.push(changed(data, |d| set(d, 8, 2 * row + 1, output)));
+    ]
+}
+
+/// Torques of an output sensor at its limit, and where the sum with the others is at its limits around the aim.
+fn output_limits(highest: u32, aim: u32, others: u32) -> [u32; 7] {
+    let for_sum = |sum: u32| sum.saturating_sub(others);
+    [
+        highest,
+        highest + 1,
+        u32::MAX,
+        for_sum(aim + 500),
+        for_sum(aim + 501),
+        for_sum(aim.saturating_sub(500)),
+        for_sum(aim.saturating_sub(501)),
+    ]
+}
+
+/// Rows of kind 3 with the output torque at one side alone, and with sums that no four bytes hold: two come round to the aim.
+fn side_limits(input: u32, output: u32, aim: u32) -> [Vec<u32>; 6] {
+    const MOST: u32 = u32::MAX;
+    [
+        vec![input, output, 0],
+        vec![input, 0, output],
+        vec![input, MOST, MOST],
+        vec![MOST, MOST, MOST],
+        vec![input, MOST, aim + 1],
+        vec![input, aim + 1, MOST],
+    ]
+}
+
+fn set_row(data: &mut Data, tag: u8, row: usize, torques: &[u32]) {
+    for (place, torque) in torques.iter().enumerate() {
+        set(data, tag, row * torques.len() + place, *torque);
     }
-    faulty
 }
 
 /// Data with one to three faults or pieces of damage, so that the order of refusals counts.
@@ -173,7 +256,7 @@ fn chance_fault(source: &mut Source, data: &mut Data) {
     }
     let place = source.index(data.fields.len());
     match source.below(8) {
-        0 => data.fields[place].tag = source.between(0, 9) as u8,
+        0 => data.fields[place].tag = source.between(0, 11) as u8,
         1 => data.fields[place].length = source.with_ends(0, 200) as u16,
         2 => drop(data.fields.remove(place)),
         3 => data.fields.insert(place, data.fields[place].clone()),

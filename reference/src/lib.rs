@@ -1,5 +1,6 @@
-//! Second implementation of document 01, "Axle loss maps", written from the
-//! rule book alone. It renders the whole of it, for checks by running.
+//! Second implementation of document 01, "Axle loss maps", with request C-11 of
+//! document 02, two half-shaft sensors; written from these papers alone. It
+//! renders the whole of them, for checks by running.
 //! Beside it: traces of single numbers; a generator of component data and
 //! questions, and what it takes to compare the answers with those of the proved
 //! libraries; cases whose exact entries are printed; and the examples.

@@ -1,6 +1,7 @@
-//! Document 01, "Standard loss" and "Measured loss".
+//! Document 01, "Standard loss" and "Measured loss", the latter over one output
+//! sensor or over two (request C-11).
 
-use crate::component::{Row, Sensor};
+use crate::component::{Measured, Row, Sensor};
 
 /// A fraction of whole numbers as its rule makes it, not reduced.
 #[derive(Clone, Copy, PartialEq, Eq, Debug)]
@@ -150,19 +151,24 @@ fn uncertainty_at_wheel(input: u128, ratio: u16) -> Fraction {
 /// The uncertainty of a loss with the numbers that lead to it, in grains.
 #[derive(Clone, Copy, PartialEq, Eq, Debug)]
 pub struct UncertaintySteps {
-    /// V before it is rounded up. W is U of the output sensor.
+    /// V before it is rounded up. W is U of an output sensor.
     pub at_wheel: Fraction,
-    /// VV + WW.
+    /// VV, and WW of each output sensor.
     pub sum_of_squares: u128,
     /// The loss uncertainty.
     pub uncertainty: u128,
 }
 
-/// The steps from U of both sensors to the loss uncertainty.
-fn uncertainty_steps(input: u128, ratio: u16, output: u128) -> UncertaintySteps {
+/// The steps from U of all sensors to the loss uncertainty: one root of all squares.
+fn uncertainty_steps(
+    input: u128,
+    ratio: u16,
+    outputs: impl Iterator<Item = u128>,
+) -> UncertaintySteps {
     let at_wheel = uncertainty_at_wheel(input, ratio);
     let rounded = at_wheel.rounded_up();
-    let sum_of_squares = rounded * rounded + output * output;
+    let output_squares: u128 = outputs.map(|output| output * output).sum();
+    let sum_of_squares = rounded * rounded + output_squares;
     UncertaintySteps {
         at_wheel,
         sum_of_squares,
@@ -170,16 +176,17 @@ fn uncertainty_steps(input: u128, ratio: u16, output: u128) -> UncertaintySteps 
     }
 }
 
-/// The loss uncertainty in grains, from U of both sensors.
-pub fn loss_uncertainty(input: u128, ratio: u16, output: u128) -> u128 {
-    uncertainty_steps(input, ratio, output).uncertainty
+/// The loss uncertainty in grains, from U of the input sensor and of each output sensor.
+pub fn loss_uncertainty(input: u128, ratio: u16, outputs: &[u128]) -> u128 {
+    uncertainty_steps(input, ratio, outputs.iter().copied()).uncertainty
 }
 
 /// One measured entry with the numbers that lead to it.
-#[derive(Clone, Copy, PartialEq, Eq, Debug)]
+#[derive(Clone, PartialEq, Eq, Debug)]
 pub struct MeasuredSteps {
     pub input: SensorSteps,
-    pub output: SensorSteps,
+    /// One for each output sensor.
+    pub outputs: Vec<SensorSteps>,
     pub loss_uncertainty: UncertaintySteps,
     /// The measured loss in thousandths of a hundredth of Nm.
     pub loss: u128,
@@ -202,22 +209,23 @@ pub const PARTS_OF_A_GRAIN: u128 = PARTS / 100;
 pub const LEAST_ALLOWANCE: u128 = 100 * PARTS;
 
 /// The steps of a measured row's entry, or None when its loss is under zero.
-pub fn measured_steps(
-    ratio: u16,
-    input: &Sensor,
-    output: &Sensor,
-    row: &Row,
-) -> Option<MeasuredSteps> {
+pub fn measured_steps(ratio: u16, measured: &Measured, row: &Row) -> Option<MeasuredSteps> {
     let loss = measured_loss(ratio, row)?;
-    let input = sensor_steps(input, row.input);
-    let output = sensor_steps(output, row.output);
-    let loss_uncertainty = uncertainty_steps(input.uncertainty, ratio, output.uncertainty);
+    let input = sensor_steps(&measured.input, row.input);
+    let outputs: Vec<SensorSteps> = measured
+        .outputs
+        .iter()
+        .zip(&row.outputs)
+        .map(|(sensor, torque)| sensor_steps(sensor, *torque))
+        .collect();
+    let of_outputs = outputs.iter().map(|steps| steps.uncertainty);
+    let loss_uncertainty = uncertainty_steps(input.uncertainty, ratio, of_outputs);
     let allowance = allowance(loss);
     let in_parts = PARTS_OF_A_GRAIN * loss_uncertainty.uncertainty;
     let above_allowance = in_parts.saturating_sub(allowance);
     Some(MeasuredSteps {
         input,
-        output,
+        outputs,
         loss_uncertainty,
         loss,
         allowance,
@@ -231,14 +239,14 @@ pub fn measured_steps(
 
 /// The entry of the measured rule in hundredths of Nm, not capped, or None
 /// when the measured loss is under zero.
-pub fn measured_entry(ratio: u16, input: &Sensor, output: &Sensor, row: &Row) -> Option<u128> {
-    measured_steps(ratio, input, output, row).map(|steps| steps.entry.rounded_up())
+pub fn measured_entry(ratio: u16, measured: &Measured, row: &Row) -> Option<u128> {
+    measured_steps(ratio, measured, row).map(|steps| steps.entry.rounded_up())
 }
 
 /// Measured loss in thousandths of a hundredth of Nm, None under zero.
 pub(crate) fn measured_loss(ratio: u16, row: &Row) -> Option<u128> {
     let input_at_wheel = u128::from(row.input) * u128::from(ratio);
-    input_at_wheel.checked_sub(1_000 * u128::from(row.output))
+    input_at_wheel.checked_sub(1_000 * u128::from(row.output()))
 }
 
 /// 5 % of a loss, in `PARTS`. The loss comes in thousandths of a hundredth of

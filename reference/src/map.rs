@@ -1,7 +1,7 @@
 //! Document 01, the build: "Standard loss", "Measured loss" and the order of
-//! "Refusals" after the fields: 12, then 11, then the rows 7, 7, 8, 9, 10.
+//! "Refusals" after the fields: 12, then 11, then the rows: 7 of each torque, 8, 9, 10.
 
-use crate::component::{self, row_place, Component, Kind, Row, Sensor};
+use crate::component::{self, output_place, Component, Kind, Measured, Row, Sensor};
 use crate::loss;
 use crate::refusal::Refusal;
 
@@ -9,7 +9,7 @@ use crate::refusal::Refusal;
 pub(crate) const LARGEST_ENTRY: u32 = 10_000_000;
 
 /// How far an output torque may be from its axis torque, in hundredths of Nm.
-const LARGEST_DISTANCE: u32 = 500;
+const LARGEST_DISTANCE: u64 = 500;
 
 /// A built map. Entries in hundredths of Nm, speeds outer, torques inner.
 #[derive(Clone, PartialEq, Eq, Debug)]
@@ -33,12 +33,7 @@ pub fn build(data: &[u8], lent_entries: usize) -> Result<Map, Refusal> {
     }
     let entries = match &component.kind {
         Kind::Standard => standard_entries(&component),
-        Kind::Measured {
-            input,
-            output,
-            rows,
-            rows_start,
-        } => measured_entries(&component, input, output, rows, *rows_start)?,
+        Kind::Measured(measured) => measured_entries(&component, measured)?,
     };
     Ok(Map {
         speeds: component.speeds,
@@ -60,20 +55,14 @@ fn standard_entries(component: &Component) -> Vec<u32> {
     row.repeat(component.speeds.len())
 }
 
-fn measured_entries(
-    component: &Component,
-    input: &Sensor,
-    output: &Sensor,
-    rows: &[Row],
-    rows_start: usize,
-) -> Result<Vec<u32>, Refusal> {
-    let mut entries = Vec::with_capacity(rows.len());
-    for (index, row) in rows.iter().enumerate() {
-        let place = row_place(rows_start, index);
+fn measured_entries(component: &Component, measured: &Measured) -> Result<Vec<u32>, Refusal> {
+    let mut entries = Vec::with_capacity(measured.rows.len());
+    for (index, row) in measured.rows.iter().enumerate() {
+        let place = measured.row_place(index);
         let axis_torque = component.torques[index % component.torques.len()];
-        test_row(row, input, output, axis_torque, place)?;
-        let entry = loss::measured_entry(component.ratio, input, output, row)
-            .ok_or(Refusal::at(9, place))?;
+        test_row(row, measured, axis_torque, place)?;
+        let entry =
+            loss::measured_entry(component.ratio, measured, row).ok_or(Refusal::at(9, place))?;
         if entry > u128::from(LARGEST_ENTRY) {
             return Err(Refusal::at(10, place));
         }
@@ -82,23 +71,23 @@ fn measured_entries(
     Ok(entries)
 }
 
-/// Refusals 7, 7 and 8 of a row at this place.
-fn test_row(
-    row: &Row,
-    input: &Sensor,
-    output: &Sensor,
-    axis_torque: u16,
-    place: usize,
-) -> Result<(), Refusal> {
-    let output_place = place + 4;
-    if row.input > 100 * u32::from(input.nominal) {
+/// Refusals 7 of the input and of each output, and 8 of their sum, of a row at
+/// this place.
+fn test_row(row: &Row, measured: &Measured, axis_torque: u16, place: usize) -> Result<(), Refusal> {
+    test_torque(row.input, &measured.input, place)?;
+    for (index, (torque, sensor)) in row.outputs.iter().zip(&measured.outputs).enumerate() {
+        test_torque(*torque, sensor, output_place(place, index))?;
+    }
+    if row.output().abs_diff(100 * u64::from(axis_torque)) > LARGEST_DISTANCE {
+        return Err(Refusal::at(8, output_place(place, 0)));
+    }
+    Ok(())
+}
+
+/// Refusal 7.
+fn test_torque(torque: u32, sensor: &Sensor, place: usize) -> Result<(), Refusal> {
+    if torque > 100 * u32::from(sensor.nominal) {
         return Err(Refusal::at(7, place));
-    }
-    if row.output > 100 * u32::from(output.nominal) {
-        return Err(Refusal::at(7, output_place));
-    }
-    if row.output.abs_diff(100 * u32::from(axis_torque)) > LARGEST_DISTANCE {
-        return Err(Refusal::at(8, output_place));
     }
     Ok(())
 }

@@ -1,7 +1,7 @@
 //! What a case is answered by the rules, as the text that `vectors` writes; and a tally of what was seen.
 
 use crate::cases::Case;
-use crate::component::{self, row_place, Component, Kind};
+use crate::component::{self, Component, Kind};
 use crate::exact::{ExactMap, Verdict};
 use crate::listing::{listing, report};
 use crate::lookup::{self, LentMap};
@@ -35,8 +35,8 @@ pub struct Seen {
     pub cases: BTreeMap<char, u64>,
     pub refusals: BTreeMap<u8, u64>,
     pub places: BTreeMap<u8, BTreeSet<usize>>,
-    pub standard_maps: u64,
-    pub measured_maps: u64,
+    /// Maps built, by the number of their kind.
+    pub maps: BTreeMap<u8, u64>,
     pub losses: u64,
     pub negative_losses: u64,
     pub entries: Excess,
@@ -45,6 +45,11 @@ pub struct Seen {
 }
 
 impl Seen {
+    /// How many maps of a kind were built.
+    pub fn maps_of(&self, kind: u8) -> u64 {
+        self.maps.get(&kind).copied().unwrap_or(0)
+    }
+
     fn refused(&mut self, refusal: Refusal) -> String {
         *self.refusals.entry(refusal.number).or_default() += 1;
         let places = self.places.entry(refusal.number).or_default();
@@ -93,10 +98,7 @@ fn build_reply(
         }
     };
     let component = component::read(data).expect("a build accepts only what reads");
-    match component.kind {
-        Kind::Standard => seen.standard_maps += 1,
-        Kind::Measured { .. } => seen.measured_maps += 1,
-    }
+    *seen.maps.entry(component.kind.number()).or_default() += 1;
     let exact = ExactMap::new(&component);
     check_entries(&exact, &built, seen);
     let mut lent_entries = built.entries.clone();
@@ -173,29 +175,23 @@ fn numbers(name: &str, numbers: &[u16]) -> String {
     text
 }
 
-/// Component data read into numbers, as one line.
+/// Component data read into numbers, as one line. The first output sensor of kind 3 is the left one.
 pub fn component_line(component: &Component) -> String {
-    let kind = match component.kind {
-        Kind::Standard => 1,
-        Kind::Measured { .. } => 2,
-    };
     let mut line = format!(
-        "kind {kind} line {} ratio {}",
-        component.line, component.ratio
+        "kind {} line {} ratio {}",
+        component.kind.number(),
+        component.line,
+        component.ratio
     );
     line += &numbers(" speeds", &component.speeds);
     line += &numbers(" torques", &component.torques);
-    if let Kind::Measured {
-        input,
-        output,
-        rows,
-        rows_start,
-    } = &component.kind
-    {
-        line += &numbers(" input", &input.numbers());
-        line += &numbers(" output", &output.numbers());
-        let end = row_place(*rows_start, rows.len());
-        let _ = write!(line, " rows {rows_start} to {end}");
+    if let Kind::Measured(measured) = &component.kind {
+        line += &numbers(" input", &measured.input.numbers());
+        for (name, sensor) in [" output", " right"].iter().zip(&measured.outputs) {
+            line += &numbers(name, &sensor.numbers());
+        }
+        let (start, end) = (measured.rows_start, measured.row_place(measured.rows.len()));
+        let _ = write!(line, " rows {start} to {end}");
     }
     line + "\n"
 }

@@ -1,5 +1,6 @@
-//! Valid component data of both kinds, over the whole ranges with their ends on purpose.
+//! Valid component data of every kind, over the whole ranges with their ends on purpose.
 
+use crate::component::measured_tags;
 use crate::data::{Data, Field, SENSOR_RANGES};
 use crate::random::Source;
 
@@ -70,15 +71,15 @@ fn sensor(source: &mut Source) -> [u16; 9] {
     numbers
 }
 
-/// A row that keeps the rules of the output torque and of the loss.
-fn row(source: &mut Source, ratio: u64, torque: u64) -> (u64, u64) {
+/// Input and output torque of a row that keeps the rules of the output torque and of the loss. The output torque is at most the highest.
+fn row(source: &mut Source, ratio: u64, torque: u64, highest: u64) -> (u64, u64) {
     let aim = torque * 100;
     let output = source
         .with_ends(aim.saturating_sub(500), aim + 500)
-        .min(HIGHEST_TORQUE);
+        .min(highest);
     let least = (output * 1_000).div_ceil(ratio);
     let (input, output) = match source.below(6) {
-        0 => no_loss(least, ratio, aim).unwrap_or((least, output)),
+        0 => no_loss(least, ratio, aim, highest).unwrap_or((least, output)),
         1 => (least, output),
         2 => (least + source.between(0, 3), output),
         3 => (least + source.between(0, 9_000_000 * 1_000 / ratio), output),
@@ -91,10 +92,26 @@ fn row(source: &mut Source, ratio: u64, torque: u64) -> (u64, u64) {
 }
 
 /// A row near to the wanted one whose loss is exactly zero.
-fn no_loss(input: u64, ratio: u64, aim: u64) -> Option<(u64, u64)> {
+fn no_loss(input: u64, ratio: u64, aim: u64, highest: u64) -> Option<(u64, u64)> {
     let whole = (input.saturating_sub(100)..=input).find(|n| (n * ratio).is_multiple_of(1_000))?;
     let output = whole * ratio / 1_000;
-    (output.abs_diff(aim) <= 500 && output <= HIGHEST_TORQUE).then_some((whole, output))
+    (output.abs_diff(aim) <= 500 && output <= highest).then_some((whole, output))
+}
+
+/// An output torque as so many sensors have it together: even parts, all at one of them, or any parts.
+fn parts(source: &mut Source, output: u64, sensors: u64) -> Vec<u64> {
+    let (mut parts, mut rest) = (Vec::new(), output);
+    for others in (1..sensors).rev() {
+        let least = rest.saturating_sub(others * HIGHEST_TORQUE);
+        let part = match source.below(3) {
+            0 => rest / (1 + others),
+            _ => source.with_ends(least, rest.min(HIGHEST_TORQUE)),
+        };
+        parts.push(part);
+        rest -= part;
+    }
+    parts.push(rest);
+    parts
 }
 
 /// A nominal torque that a sensor's largest torque does not exceed, often only just.
@@ -103,26 +120,35 @@ fn nominal(source: &mut Source, largest: u64) -> u16 {
     source.with_ends(least, 50_000) as u16
 }
 
-fn row_fields(source: &mut Source, ratio: u64, speeds: usize, torques: &[u16]) -> Vec<Field> {
+/// What measured data with so many output sensors has after tag 5.
+fn measurement(
+    source: &mut Source,
+    outputs: u64,
+    ratio: u64,
+    speeds: usize,
+    torques: &[u16],
+) -> (Vec<[u16; 9]>, Vec<Vec<u32>>) {
+    // What the output sensors can have together, and what the input sensor can have, at the wheel.
+    let highest = (outputs * HIGHEST_TORQUE).min(HIGHEST_TORQUE * ratio / 1_000);
     let mut rows = Vec::new();
     for _ in 0..speeds {
         for torque in torques {
-            rows.push(row(source, ratio, u64::from(*torque)));
+            let (input, output) = row(source, ratio, u64::from(*torque), highest);
+            let mut torques = vec![input];
+            torques.extend(parts(source, output, outputs));
+            rows.push(torques);
         }
     }
-    let mut input = sensor(source);
-    let mut output = sensor(source);
-    input[0] = nominal(source, rows.iter().map(|row| row.0).max().unwrap_or(0));
-    output[0] = nominal(source, rows.iter().map(|row| row.1).max().unwrap_or(0));
-    let rows: Vec<[u32; 2]> = rows
+    let mut sensors: Vec<[u16; 9]> = (0..=outputs).map(|_| sensor(source)).collect();
+    for (place, sensor) in sensors.iter_mut().enumerate() {
+        let largest = rows.iter().map(|row| row[place]).max().unwrap_or(0);
+        sensor[0] = nominal(source, largest);
+    }
+    let rows = rows
         .iter()
-        .map(|(input, output)| [*input as u32, *output as u32])
+        .map(|row| row.iter().map(|torque| *torque as u32).collect())
         .collect();
-    vec![
-        Field::of_numbers(6, &input),
-        Field::of_numbers(7, &output),
-        Field::of_rows(&rows),
-    ]
+    (sensors, rows)
 }
 
 /// Data of a kind with so many speeds and torques. A very uncertain sensor may still bring an entry above the limit (10).
@@ -139,15 +165,17 @@ pub fn data_of(source: &mut Source, kind: u8, speed_count: usize, torque_count: 
         Field::of_numbers(4, &speeds(source, speed_count)),
         Field::of_numbers(5, &torques),
     ];
-    if kind == 2 {
-        fields.extend(row_fields(source, ratio, speed_count, &torques));
+    if let Some(tags) = measured_tags(kind) {
+        let outputs = tags.outputs.len() as u64;
+        let (sensors, rows) = measurement(source, outputs, ratio, speed_count, &torques);
+        fields.extend(Field::of_measurement(kind, &sensors, &rows));
     }
     Data::of(fields)
 }
 
-/// Data of either kind and any size, measured more often than standard.
+/// Data of any kind and any size, measured more often than standard.
 pub fn data(source: &mut Source) -> Data {
-    let kind = if source.once_in(4) { 1 } else { 2 };
+    let kind = source.one_of(&[1, 1, 2, 2, 2, 3, 3, 3]);
     let (speeds, torques) = grid_size(source);
     data_of(source, kind, speeds, torques)
 }

@@ -4,7 +4,7 @@
 use reference::component::{self, Kind, Sensor};
 use reference::data::SENSOR_RANGES;
 use reference::exact::Bounds;
-use reference::exact_cases::{MeasuredCase, StandardCase, MEASURED, STANDARD};
+use reference::exact_cases::{MeasuredCase, StandardCase, HALF_SHAFTS, MEASURED, STANDARD};
 use reference::loss::{sensor_parts, sensor_uncertainty};
 use reference::map;
 use reference::wide::Wide;
@@ -33,14 +33,26 @@ fn unrounded_parts(numbers: &[u16; 9], torque: u32) -> [Part; 4] {
     ]
 }
 
-/// The parts of the input sensor and of the output sensor.
-fn both_parts(case: &MeasuredCase) -> [[Part; 4]; 2] {
-    [0, 1].map(|side| unrounded_parts(&case.sensors[side], case.torques[side]))
+/// The parts of each sensor.
+fn all_parts<const SENSORS: usize>(case: &MeasuredCase<SENSORS>) -> [[Part; 4]; SENSORS] {
+    std::array::from_fn(|place| unrounded_parts(&case.sensors[place], case.torques[place]))
+}
+
+fn common_denominator(parts: &[Part; 4]) -> u128 {
+    let divisor = |mut x: u128, mut y: u128| {
+        while y > 0 {
+            (x, y) = (y, x % y);
+        }
+        x
+    };
+    parts
+        .iter()
+        .fold(1, |all, (_, own)| all / divisor(all, *own) * own)
 }
 
 /// aa + bb + 3gg + hh, as numerator and the root of its denominator.
 fn sum_of_squares(parts: &[Part; 4]) -> (Wide, u128) {
-    let denominator: u128 = parts.iter().map(|part| part.1).product();
+    let denominator = common_denominator(parts);
     let square = |(numerator, own): Part| {
         let number = Wide::from(numerator) * (denominator / own);
         number * number
@@ -49,46 +61,50 @@ fn sum_of_squares(parts: &[Part; 4]) -> (Wide, u128) {
     (a + b + g * 3 + h, denominator)
 }
 
-/// How the root, in the parts of the bounds, stands to a number of them: the squares of both, times 3 x 1,000 x 1,000 x both sensors' denominators squared.
-fn compare_root(ratio: u16, parts: &[[Part; 4]; 2], number: u128) -> Ordering {
-    let [(input, input_denominator), (output, output_denominator)] =
-        [0, 1].map(|side| sum_of_squares(&parts[side]));
+/// How the root, in the parts of the bounds, stands to a number of them: the squares of both, times 3 x 1,000 x 1,000 x all sensors' denominators squared.
+fn compare_root(ratio: u16, parts: &[[Part; 4]], number: u128) -> Ordering {
     let square = |number: u128| Wide::from(number) * number;
-    let at_wheel = input * square(output_denominator) * square(u128::from(ratio));
-    let of_output = output * square(input_denominator) * square(1_000);
-    let root_square = (at_wheel + of_output) * 4 * square(GRAIN);
-    let denominator = square(1_000 * input_denominator) * square(output_denominator) * 3;
-    root_square.cmp(&(square(number) * denominator))
+    let (mut sum, mut denominator) = (Wide::ZERO, Wide::from(1));
+    for (place, parts) in parts.iter().enumerate() {
+        let at_wheel = if place == 0 { u128::from(ratio) } else { 1_000 };
+        let (own, own_denominator) = sum_of_squares(parts);
+        // The sum so far and this sensor's square come over one denominator.
+        sum = sum * square(own_denominator) + own * square(at_wheel) * denominator;
+        denominator = denominator * square(own_denominator);
+    }
+    let root_square = sum * 4 * square(GRAIN);
+    root_square.cmp(&(square(number) * denominator * square(1_000) * 3))
 }
 
 /// Measured loss in the parts of the bounds.
-fn loss(case: &MeasuredCase) -> u128 {
-    let [input, output] = case.torques.map(u128::from);
-    (u128::from(case.ratio) * input - 1_000 * output) * BOUND_PARTS / 1_000
+fn loss<const SENSORS: usize>(case: &MeasuredCase<SENSORS>) -> u128 {
+    let input = u128::from(case.ratio) * u128::from(case.torques[0]);
+    let outputs: u128 = case.torques[1..].iter().copied().map(u128::from).sum();
+    (input - 1_000 * outputs) * BOUND_PARTS / 1_000
 }
 
-fn five_percent_of_loss(case: &MeasuredCase) -> u128 {
+fn five_percent_of_loss<const SENSORS: usize>(case: &MeasuredCase<SENSORS>) -> u128 {
     loss(case) / 20
 }
 
 /// The allowance in the parts of the bounds.
-fn allowance(case: &MeasuredCase) -> u128 {
+fn allowance<const SENSORS: usize>(case: &MeasuredCase<SENSORS>) -> u128 {
     five_percent_of_loss(case).max(NEWTON_METRE)
 }
 
-fn root_is_above_allowance(case: &MeasuredCase) -> bool {
-    compare_root(case.ratio, &both_parts(case), allowance(case)).is_gt()
+fn root_is_above_allowance<const SENSORS: usize>(case: &MeasuredCase<SENSORS>) -> bool {
+    compare_root(case.ratio, &all_parts(case), allowance(case)).is_gt()
 }
 
 /// The cases whose root is above the allowance.
-fn with_root() -> Vec<MeasuredCase> {
-    let mut cases = MEASURED.to_vec();
+fn with_root<const SENSORS: usize>(cases: &[MeasuredCase<SENSORS>]) -> Vec<MeasuredCase<SENSORS>> {
+    let mut cases = cases.to_vec();
     cases.retain(root_is_above_allowance);
     cases
 }
 
 /// The root that a bound of the entry stands for: bound - loss + allowance.
-fn root_of_bound(case: &MeasuredCase, bound: i64) -> u128 {
+fn root_of_bound<const SENSORS: usize>(case: &MeasuredCase<SENSORS>, bound: i64) -> u128 {
     u128::try_from(bound).unwrap() + allowance(case) - loss(case)
 }
 
@@ -114,25 +130,29 @@ fn neighbours(number: u16, lowest: u16, highest: u16) -> Vec<u16> {
     near
 }
 
-#[test]
-fn measured_cases_are_accepted() {
-    for case in MEASURED {
+fn expect_accepted<const SENSORS: usize>(cases: &[MeasuredCase<SENSORS>]) {
+    for case in cases {
         let built = map::build(&case.data(), 4).unwrap();
         let entry = i64::from(built.entries[1]) * 10_000_000;
         let bounds = case.bounds();
         assert!(bounds.high <= entry && entry < bounds.low + 20_000_000);
-        assert!(case.torques[1].abs_diff(100 * u32::from(built.torques[1])) <= 500);
+        assert!(case.output().abs_diff(100 * u32::from(built.torques[1])) <= 500);
     }
 }
 
 #[test]
-fn measured_numbers_are_not_round() {
-    let ratios = MEASURED.map(|case| case.ratio);
-    assert!(all_differ(ratios.into_iter()));
+fn measured_cases_are_accepted() {
+    expect_accepted(&MEASURED);
+    expect_accepted(&HALF_SHAFTS);
+}
+
+fn expect_no_round_number<const SENSORS: usize>(cases: &[MeasuredCase<SENSORS>]) {
+    let ratios: Vec<u16> = cases.iter().map(|case| case.ratio).collect();
+    assert!(all_differ(ratios.iter()));
     assert!(ratios.iter().all(|ratio| !ratio.is_multiple_of(10)));
     assert!(ratios.iter().any(|ratio| (1_001..2_000).contains(ratio)));
     assert!(ratios.iter().any(|ratio| *ratio > 10_000));
-    for case in MEASURED {
+    for case in cases {
         for numbers in case.sensors {
             for (number, (lowest, highest)) in numbers.into_iter().zip(SENSOR_RANGES) {
                 assert!((lowest..=highest).contains(&number) && !number.is_multiple_of(10));
@@ -140,28 +160,34 @@ fn measured_numbers_are_not_round() {
             assert!(all_differ(numbers.into_iter()));
         }
         assert!(case.torques.iter().all(|torque| !torque.is_multiple_of(10)));
+        assert!(all_differ(case.torques.into_iter()));
         assert!(
-            !loss(&case).is_multiple_of(BOUND_PARTS),
+            !loss(case).is_multiple_of(BOUND_PARTS),
             "loss in whole hundredths"
         );
     }
 }
 
+#[test]
+fn measured_numbers_are_not_round() {
+    expect_no_round_number(&MEASURED);
+    expect_no_round_number(&HALF_SHAFTS);
+}
+
 /// The sensors as the second implementation reads them.
-fn sensors(case: &MeasuredCase) -> [Sensor; 2] {
+fn sensors<const SENSORS: usize>(case: &MeasuredCase<SENSORS>) -> Vec<Sensor> {
     match component::read(&case.data()).unwrap().kind {
-        Kind::Measured { input, output, .. } => [input, output],
+        Kind::Measured(measured) => [vec![measured.input], measured.outputs].concat(),
         Kind::Standard => panic!("the case is measured"),
     }
 }
 
-#[test]
-fn parts_are_of_like_size_and_no_whole_grains() {
-    for case in MEASURED {
-        let sensors = sensors(&case);
-        for (side, parts) in both_parts(&case).into_iter().enumerate() {
+fn expect_parts_at_work<const SENSORS: usize>(cases: &[MeasuredCase<SENSORS>]) {
+    for case in cases {
+        let sensors = sensors(case);
+        for (place, parts) in all_parts(case).into_iter().enumerate() {
             let rounded = parts.map(|(numerator, denominator)| numerator.div_ceil(denominator));
-            assert_eq!(rounded, sensor_parts(&sensors[side], case.torques[side]));
+            assert_eq!(rounded, sensor_parts(&sensors[place], case.torques[place]));
             for (numerator, denominator) in parts {
                 let tenths = 10 * (numerator % denominator);
                 assert!(denominator < tenths && tenths < 9 * denominator);
@@ -173,34 +199,51 @@ fn parts_are_of_like_size_and_no_whole_grains() {
 }
 
 #[test]
-fn both_sensors_have_their_share() {
-    for case in MEASURED {
-        let sensors = sensors(&case);
-        let [input, output] =
-            [0, 1].map(|side| sensor_uncertainty(sensor_parts(&sensors[side], case.torques[side])));
-        let at_wheel = (input * u128::from(case.ratio)).div_ceil(1_000);
-        assert!(at_wheel <= 5 * output && output <= 5 * at_wheel);
+fn parts_are_of_like_size_and_no_whole_grains() {
+    expect_parts_at_work(&MEASURED);
+    expect_parts_at_work(&HALF_SHAFTS);
+}
+
+fn expect_shares<const SENSORS: usize>(cases: &[MeasuredCase<SENSORS>]) {
+    for case in cases {
+        let sensors = sensors(case);
+        let mut shares: [u128; SENSORS] = std::array::from_fn(|place| {
+            sensor_uncertainty(sensor_parts(&sensors[place], case.torques[place]))
+        });
+        shares[0] = (shares[0] * u128::from(case.ratio)).div_ceil(1_000);
+        let (least, most) = (shares.iter().min().unwrap(), shares.iter().max().unwrap());
+        assert!(*most <= 5 * least);
     }
 }
 
 #[test]
-fn both_allowances_occur() {
-    let cases = with_root();
-    assert_eq!(cases.len(), 5);
-    let above_one = |case: &&MeasuredCase| five_percent_of_loss(case) > NEWTON_METRE;
+fn all_sensors_have_their_share() {
+    expect_shares(&MEASURED);
+    expect_shares(&HALF_SHAFTS);
+}
+
+fn expect_both_allowances<const SENSORS: usize>(cases: &[MeasuredCase<SENSORS>], count: usize) {
+    let cases = with_root(cases);
+    assert_eq!(cases.len(), count);
+    let above_one = |case: &&MeasuredCase<SENSORS>| five_percent_of_loss(case) > NEWTON_METRE;
     let five_percent = cases.iter().filter(above_one).count();
     assert!(five_percent >= 2 && cases.len() - five_percent >= 2);
 }
 
 #[test]
-fn below_the_allowance_the_entry_is_the_loss() {
-    let mut cases = MEASURED.to_vec();
+fn both_allowances_occur() {
+    expect_both_allowances(&MEASURED, 5);
+    expect_both_allowances(&HALF_SHAFTS, 4);
+}
+
+fn expect_one_below_the_allowance<const SENSORS: usize>(cases: &[MeasuredCase<SENSORS>]) {
+    let mut cases = cases.to_vec();
     cases.retain(|case| !root_is_above_allowance(case));
     assert_eq!(cases.len(), 1);
     let case = &cases[0];
     // Not below 1 Nm: the allowance is 5 % of the loss.
-    assert!(compare_root(case.ratio, &both_parts(case), allowance(case)).is_lt());
-    assert!(compare_root(case.ratio, &both_parts(case), NEWTON_METRE).is_gt());
+    assert!(compare_root(case.ratio, &all_parts(case), allowance(case)).is_lt());
+    assert!(compare_root(case.ratio, &all_parts(case), NEWTON_METRE).is_gt());
     let loss = i64::try_from(loss(case)).unwrap();
     let bounds = case.bounds();
     assert_eq!([bounds.low, bounds.high], [loss; 2]);
@@ -210,20 +253,33 @@ fn below_the_allowance_the_entry_is_the_loss() {
 }
 
 #[test]
-fn bounds_are_around_the_exact_entry() {
-    for case in with_root() {
+fn below_the_allowance_the_entry_is_the_loss() {
+    expect_one_below_the_allowance(&MEASURED);
+    expect_one_below_the_allowance(&HALF_SHAFTS);
+}
+
+fn expect_bounds<const SENSORS: usize>(cases: &[MeasuredCase<SENSORS>]) {
+    for case in with_root(cases) {
         let bounds = case.bounds();
         assert_eq!(bounds.high - bounds.low, 1);
         let compare = |bound| {
             let root = root_of_bound(&case, bound);
-            compare_root(case.ratio, &both_parts(&case), root)
+            compare_root(case.ratio, &all_parts(&case), root)
         };
         assert!(compare(bounds.low).is_gt() && compare(bounds.high).is_lt());
     }
 }
 
+#[test]
+fn bounds_are_around_the_exact_entry() {
+    expect_bounds(&MEASURED);
+    expect_bounds(&HALF_SHAFTS);
+}
+
 /// The case with one of the ratio and the torques changed by one.
-fn ratio_or_torque_changed(case: &MeasuredCase) -> Vec<MeasuredCase> {
+fn ratio_or_torque_changed<const SENSORS: usize>(
+    case: &MeasuredCase<SENSORS>,
+) -> Vec<MeasuredCase<SENSORS>> {
     let mut changed = Vec::new();
     for ratio in neighbours(case.ratio, 1_000, 20_000) {
         changed.push(MeasuredCase {
@@ -231,10 +287,10 @@ fn ratio_or_torque_changed(case: &MeasuredCase) -> Vec<MeasuredCase> {
             ..case.clone()
         });
     }
-    for side in [0, 1] {
-        for torque in [case.torques[side] - 1, case.torques[side] + 1] {
+    for place in 0..SENSORS {
+        for torque in [case.torques[place] - 1, case.torques[place] + 1] {
             let mut other = case.clone();
-            other.torques[side] = torque;
+            other.torques[place] = torque;
             changed.push(other);
         }
     }
@@ -242,13 +298,15 @@ fn ratio_or_torque_changed(case: &MeasuredCase) -> Vec<MeasuredCase> {
 }
 
 /// The case with one number of one sensor changed by one.
-fn sensor_changed(case: &MeasuredCase) -> Vec<MeasuredCase> {
+fn sensor_changed<const SENSORS: usize>(
+    case: &MeasuredCase<SENSORS>,
+) -> Vec<MeasuredCase<SENSORS>> {
     let mut changed = Vec::new();
-    for side in [0, 1] {
+    for place in 0..SENSORS {
         for (index, (lowest, highest)) in SENSOR_RANGES.into_iter().enumerate() {
-            for number in neighbours(case.sensors[side][index], lowest, highest) {
+            for number in neighbours(case.sensors[place][index], lowest, highest) {
                 let mut other = case.clone();
-                other.sensors[side][index] = number;
+                other.sensors[place][index] = number;
                 changed.push(other);
             }
         }
@@ -256,13 +314,12 @@ fn sensor_changed(case: &MeasuredCase) -> Vec<MeasuredCase> {
     changed
 }
 
-#[test]
-fn every_measured_number_moves_the_bounds() {
-    for case in MEASURED {
-        let mut changed = ratio_or_torque_changed(&case);
-        if root_is_above_allowance(&case) {
-            changed.extend(sensor_changed(&case));
-            assert_eq!(changed.len(), 2 * (1 + 2 + 18));
+fn expect_every_number_to_count<const SENSORS: usize>(cases: &[MeasuredCase<SENSORS>]) {
+    for case in cases {
+        let mut changed = ratio_or_torque_changed(case);
+        if root_is_above_allowance(case) {
+            changed.extend(sensor_changed(case));
+            assert_eq!(changed.len(), 2 * (1 + SENSORS + 9 * SENSORS));
         }
         for other in changed {
             assert!(accepted(&other.data()), "refused: {other:?}");
@@ -272,17 +329,39 @@ fn every_measured_number_moves_the_bounds() {
 }
 
 #[test]
-fn a_rounded_part_leaves_the_bounds() {
-    for case in with_root() {
+fn every_measured_number_moves_the_bounds() {
+    expect_every_number_to_count(&MEASURED);
+    expect_every_number_to_count(&HALF_SHAFTS);
+}
+
+fn expect_unrounded_parts<const SENSORS: usize>(cases: &[MeasuredCase<SENSORS>]) {
+    for case in with_root(cases) {
         let above = root_of_bound(&case, case.bounds().high);
-        for side in [0, 1] {
+        for place in 0..SENSORS {
             for index in 0..4 {
-                let mut parts = both_parts(&case);
-                let (numerator, denominator) = parts[side][index];
-                parts[side][index] = (numerator.div_ceil(denominator), 1);
+                let mut parts = all_parts(&case);
+                let (numerator, denominator) = parts[place][index];
+                parts[place][index] = (numerator.div_ceil(denominator), 1);
                 assert!(compare_root(case.ratio, &parts, above).is_gt());
             }
         }
+    }
+}
+
+#[test]
+fn a_rounded_part_leaves_the_bounds() {
+    expect_unrounded_parts(&MEASURED);
+    expect_unrounded_parts(&HALF_SHAFTS);
+}
+
+#[test]
+fn each_side_has_its_own_sensor() {
+    for case in with_root(&HALF_SHAFTS) {
+        let mut other = case.clone();
+        other.torques.swap(1, 2);
+        assert!(apart(&case.bounds(), &other.bounds()));
+        other.sensors.swap(1, 2);
+        assert_eq!(case.bounds(), other.bounds());
     }
 }
 
@@ -352,6 +431,20 @@ fn printed_form() {
         MEASURED[0].printed(),
         "measured 1637; 2909 603 328 2331 6236 704 596 286 84; \
          3201 512 415 1658 4441 2609 264 368 47; 174285 284363; 14263605310 14263605311"
+    );
+    assert_eq!(
+        HALF_SHAFTS[0].printed(),
+        "measured 1483; 3076 335 83 2007 5284 2417 171 404 25; \
+         1808 6994 7484 2563 5072 1774 457 71 54; \
+         2639 812 1628 979 1345 1353 307 364 92; \
+         184198 119694 152171; 19268187972 19268187973"
+    );
+    assert_eq!(
+        HALF_SHAFTS[3].printed(),
+        "measured 9413; 2837 1236 697 144 1344 357 245 265 93; \
+         12923 492 589 1123 5346 372 347 394 64; \
+         11467 757 457 724 1529 2338 236 149 12; \
+         192698 1127527 676438; 116234511822 116234511823"
     );
     assert_eq!(
         STANDARD[0].printed(),

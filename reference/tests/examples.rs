@@ -1,6 +1,6 @@
 //! The example files have what they were made for, and each number of the bench run's map has its trace.
 
-use reference::component::{self, Component, Kind, Row, Sensor};
+use reference::component::{self, Component, Kind, Measured};
 use reference::examples::files;
 use reference::listing::report;
 use reference::lookup::{loss, LentMap};
@@ -23,14 +23,9 @@ fn bench_run() -> (Component, Map) {
     (component::read(&data).unwrap(), built)
 }
 
-fn measured(component: &Component) -> (Sensor, Sensor, Vec<Row>) {
+fn measured(component: &Component) -> &Measured {
     match &component.kind {
-        Kind::Measured {
-            input,
-            output,
-            rows,
-            ..
-        } => (*input, *output, rows.clone()),
+        Kind::Measured(measured) => measured,
         Kind::Standard => panic!("the bench run is measured"),
     }
 }
@@ -38,9 +33,9 @@ fn measured(component: &Component) -> (Sensor, Sensor, Vec<Row>) {
 /// The steps of each entry of the bench run.
 fn all_steps() -> Vec<MeasuredSteps> {
     let (component, _) = bench_run();
-    let (input, output, rows) = measured(&component);
-    let steps = |row| measured_steps(component.ratio, &input, &output, row).unwrap();
-    rows.iter().map(steps).collect()
+    let measured = measured(&component);
+    let steps = |row| measured_steps(component.ratio, measured, row).unwrap();
+    measured.rows.iter().map(steps).collect()
 }
 
 #[test]
@@ -51,6 +46,8 @@ fn each_data_file_has_its_answer() {
         "standard.csv",
         "measured.axle",
         "measured.csv",
+        "half-shafts.axle",
+        "half-shafts.csv",
         "refused.axle",
         "refused.refusal",
         "bench-run.axle",
@@ -74,6 +71,20 @@ const MEASURED: &str = "01000102020001010300020BB8040004006400C805000403E80BB8\
     03E8000000000000000A\
     080020";
 
+/// The file of kind 3: a row a line.
+const HALF_SHAFTS: &str = "01000103020001010300020BB8040004006400C805000403E80BB8\
+    0600122710000000000064\
+    03E8000000000000000A\
+    0700127530000000000064\
+    03E8000000000000000A\
+    0900123A98000000000064\
+    03E8000000000000000A\
+    0A0030\
+    000084D00000EA6000009C40\
+    00018E7000030D40000186A0\
+    000086C4000088B80000FEB0\
+    0001ADB00001D4C00002BF20";
+
 fn digits(bytes: &[u8]) -> String {
     bytes.iter().map(|byte| format!("{byte:02X}")).collect()
 }
@@ -89,6 +100,11 @@ fn the_small_files_byte_for_byte() {
     let listing =
         "speed,torque,loss\n100,1000,29.00\n100,3000,300.00\n200,1000,29.00\n200,3000,300.00\n";
     assert_eq!(text("measured.csv"), listing);
+    assert_eq!(digits(&file("half-shafts.axle")), HALF_SHAFTS);
+    // Losses 20.00, 60.00, 33.00 and 300.00 Nm, and 9.00 Nm less 1.00, 3.00, 1.65 and 15.00.
+    let listing =
+        "speed,torque,loss\n100,1000,28.00\n100,3000,66.00\n200,1000,40.35\n200,3000,300.00\n";
+    assert_eq!(text("half-shafts.csv"), listing);
     assert_eq!(text("refused.refusal"), "refused 9 at 80\n");
 }
 
@@ -110,12 +126,15 @@ fn the_bench_run_has_the_prescribed_grid() {
 #[test]
 fn every_influence_of_both_sensors_is_at_work() {
     let (component, _) = bench_run();
-    let (input, output, _) = measured(&component);
-    for sensor in [input, output] {
+    let measured = measured(&component);
+    for sensor in [&measured.input, &measured.outputs[0]] {
         assert!(!sensor.numbers().contains(&0));
     }
     for steps in all_steps() {
-        for part in steps.input.unrounded.iter().chain(&steps.output.unrounded) {
+        let [output] = &steps.outputs[..] else {
+            panic!("one output sensor");
+        };
+        for part in steps.input.unrounded.iter().chain(&output.unrounded) {
             assert!(!part.numerator.is_multiple_of(part.denominator));
         }
     }
@@ -133,14 +152,14 @@ fn the_uncertainty_is_above_the_allowance_in_half_of_the_entries() {
 #[test]
 fn the_output_torque_strays_as_on_a_bench() {
     let (component, _) = bench_run();
-    let (_, _, rows) = measured(&component);
     let torques = &component.torques;
-    let mut strays: Vec<i64> = rows
+    let mut strays: Vec<i64> = measured(&component)
+        .rows
         .iter()
         .enumerate()
         .map(|(index, row)| {
-            let aim = 100 * u32::from(torques[index % torques.len()]);
-            i64::from(row.output) - i64::from(aim)
+            let aim = 100 * i64::from(torques[index % torques.len()]);
+            i64::try_from(row.output()).unwrap() - aim
         })
         .collect();
     strays.sort_unstable();
@@ -177,9 +196,8 @@ fn the_short_file_ends_amid_a_row() {
     let (whole, short) = (file("bench-run.axle"), file("cut-short.axle"));
     assert_eq!((whole.len(), short.len()), (2_316, 1_024));
     assert!(whole.starts_with(&short));
-    let Kind::Measured { rows_start, .. } = component::read(&whole).unwrap().kind else {
-        panic!("the bench run is measured");
-    };
+    let component = component::read(&whole).unwrap();
+    let rows_start = measured(&component).rows_start;
     assert!(!(short.len() - rows_start).is_multiple_of(8));
     assert_eq!(text("cut-short.refusal"), "refused 1 at 129\n");
 }
@@ -190,10 +208,17 @@ fn last_line(trace: &str) -> &str {
 }
 
 #[test]
-fn each_entry_of_the_bench_run_has_its_trace() {
-    let data = file("bench-run.axle");
-    let (component, _) = bench_run();
-    let listing = text("bench-run.csv");
+fn each_entry_of_the_measured_files_has_its_trace() {
+    for name in ["bench-run", "half-shafts"] {
+        expect_traces(name);
+    }
+}
+
+/// The trace of each entry ends in the listing's line, and no line of it is too long.
+fn expect_traces(name: &str) {
+    let data = file(&format!("{name}.axle"));
+    let component = component::read(&data).unwrap();
+    let listing = text(&format!("{name}.csv"));
     let mut lines = listing.lines().enumerate().skip(1);
     for speed in &component.speeds {
         for torque in &component.torques {
@@ -228,6 +253,30 @@ fn points_of_the_bench_run() {
             assert_eq!(text.contains("\ncontinued "), torque < 25_000);
         }
     }
+}
+
+#[test]
+fn the_half_shafts_share_the_torque_differently() {
+    let data = file("half-shafts.axle");
+    assert_eq!(data.len(), 141);
+    let component = component::read(&data).unwrap();
+    let measured = measured(&component);
+    let [left, right] = &measured.outputs[..] else {
+        panic!("two output sensors");
+    };
+    assert_ne!(left, right);
+    let mut lefts_larger = 0;
+    for row in &measured.rows {
+        let [left, right] = row.outputs[..] else {
+            panic!("two output torques");
+        };
+        // A sixth of their sum and more.
+        assert!(6 * u64::from(left.abs_diff(right)) >= row.output());
+        lefts_larger += usize::from(left > right);
+        let steps = measured_steps(component.ratio, measured, row).unwrap();
+        assert_eq!(steps.loss_uncertainty.uncertainty, 90_000);
+    }
+    assert_eq!(lefts_larger, 2);
 }
 
 #[test]

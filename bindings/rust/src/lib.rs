@@ -5,6 +5,10 @@
 //! entries and losses in hundredths of Nm; a question's speed in tenths of rpm and its torque in
 //! hundredths of Nm.
 //!
+//! Component data is of kind 1 (standard), 2 (measured with one sensor at the output) or 3
+//! (measured with one on each half-shaft, left and right). Every call takes all three alike;
+//! `docs/FORMAT.md` has them byte by byte.
+//!
 //! ```
 //! let data = [
 //!     1, 0, 1, 1, 2, 0, 1, 1, 3, 0, 2, 11, 184, 4, 0, 4, 0, 100, 0, 200, 5, 0, 4, 0, 0, 3, 232,
@@ -28,7 +32,7 @@ pub const MAXIMUM_ENTRIES: usize = 2_048;
 pub const MAXIMUM_LISTING_LENGTH: usize = 65_536;
 
 /// Reading may stop after so many bytes: longer data is never accepted, and what follows them
-/// changes no answer.
+/// changes no answer. The longest accepted data has 24,853.
 pub const READING_LIMIT: u64 = 32_768;
 
 fn answered<T>(refusal: u32, place: usize, value: T) -> Result<T, Refusal> {
@@ -40,7 +44,8 @@ fn answered<T>(refusal: u32, place: usize, value: T) -> Result<T, Refusal> {
 
 /// Builds the map of component data: its axes, and its entries in hundredths of Nm in the first
 /// speeds x torques of the lent entries: all torques of the first speed, then those of the next.
-/// Nothing is written past those, and nothing at all where the build is refused. Refusals 1 to 12.
+/// Nothing is written past those, and nothing at all where the build is refused. Refusals 1 to 12;
+/// for data of kind 3 the place of 8 is that of the left torque.
 pub fn build(data: &[u8], entries: &mut [u32]) -> Result<Grid, Refusal> {
     // The pointers are those of slices, valid for their lengths and apart from each other.
     let built = unsafe {

@@ -34,7 +34,10 @@ fn words(number: u32, place: usize) -> Option<&'static str> {
         5 => "axis number that does not rise (the number's offset)",
         6 => "first torque above the step to the second (the first torque's offset)",
         7 => "measured torque above the sensor's nominal torque (the torque's offset)",
-        8 => "output torque more than 5.00 Nm off the axis torque (the torque's offset)",
+        8 => {
+            "output torque more than 5.00 Nm off the axis torque \
+             (the torque's offset, of kind 3 the left one's)"
+        }
         9 => "measured loss under zero (the row's offset)",
         10 => "entry above 100000.00 Nm (the row's offset)",
         11 => "too little room for the answer (the count needed)",

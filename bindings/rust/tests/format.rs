@@ -1,4 +1,4 @@
-//! docs/FORMAT.md held to the library: the dumps, each limit of its tables and of its words and one beyond it, the axle lines, and each refusal as the page tries it.
+//! docs/FORMAT.md held to the library: the dumps, the fields of each kind, each limit of its tables and of its words and one beyond it, the axle lines, and each refusal as the page tries it.
 
 #[path = "format/dumps.rs"]
 mod dumps;
@@ -22,8 +22,14 @@ fn example_named(name: &str) -> Vec<u8> {
     std::fs::read(at_root("examples").join(name)).expect("the example is there")
 }
 
-fn example() -> Vec<u8> {
+/// Data of kind 2.
+fn measured() -> Vec<u8> {
     example_named("measured.axle")
+}
+
+/// Data of kind 3.
+fn half_shafts() -> Vec<u8> {
+    example_named("half-shafts.axle")
 }
 
 /// The rows of the table whose first column has this head, each as its cells.
@@ -97,10 +103,14 @@ fn fields(data: &[u8]) -> Vec<Field> {
     fields
 }
 
-/// The fields of the example, each with the body that it is given.
-fn laid_out(body_of: impl Fn(Field) -> Vec<u8>) -> Vec<u8> {
+fn tags(data: &[u8]) -> Vec<u8> {
+    fields(data).iter().map(|field| field.tag).collect()
+}
+
+/// The fields of an example, each with the body that it is given.
+fn laid_out(example: &[u8], body_of: impl Fn(Field) -> Vec<u8>) -> Vec<u8> {
     let mut data = Vec::new();
-    for field in fields(&example()) {
+    for field in fields(example) {
         data.push(field.tag);
         let body = body_of(field);
         data.extend((body.len() as u16).to_be_bytes());
@@ -109,9 +119,9 @@ fn laid_out(body_of: impl Fn(Field) -> Vec<u8>) -> Vec<u8> {
     data
 }
 
-/// The example with another body for one field.
-fn with_body(tag: u8, body: &[u8]) -> Vec<u8> {
-    laid_out(|field| {
+/// An example with another body for one field.
+fn with_body(example: &[u8], tag: u8, body: &[u8]) -> Vec<u8> {
+    laid_out(example, |field| {
         if field.tag == tag {
             body.to_vec()
         } else {
@@ -120,37 +130,50 @@ fn with_body(tag: u8, body: &[u8]) -> Vec<u8> {
     })
 }
 
-/// The field of the example with this tag.
-fn field_of(tag: u8) -> Field {
-    let found = fields(&example())
-        .into_iter()
-        .find(|field| field.tag == tag);
-    found.expect("measured data has each field")
+/// The field of an example with this tag, where its kind has one.
+fn field_of(example: &[u8], tag: u8) -> Option<Field> {
+    let mut fields = fields(example).into_iter();
+    fields.find(|field| field.tag == tag)
+}
+
+/// The fields with this tag, each in an example that has one: of kind 2, of kind 3, or of both.
+fn in_examples(tag: u8) -> Vec<(Vec<u8>, Field)> {
+    let examples = [measured(), half_shafts()].into_iter();
+    let found: Vec<(Vec<u8>, Field)> = examples
+        .filter_map(|example| field_of(&example, tag).map(|field| (example, field)))
+        .collect();
+    assert!(!found.is_empty(), "tag {tag}: no example");
+    found
 }
 
 /// The limits of the number at an index of a field: both are in its range, and one beyond each is not.
 fn hold_range(tag: u8, index: usize, width: usize, lowest: usize, highest: usize) {
-    let field = field_of(tag);
-    let place = field.head + 3 + index * width;
-    let answer = |value: usize| {
-        let mut body = field.body.clone();
-        body[index * width..][..width].copy_from_slice(&value.to_be_bytes()[8 - width..]);
-        refusal_of(&with_body(tag, &body))
-    };
-    for inside in [lowest, highest] {
-        assert_ne!(answer(inside), refused(4, place), "tag {tag}: {inside}");
-    }
-    assert_eq!(answer(highest + 1), refused(4, place), "tag {tag}");
-    if lowest > 0 {
-        assert_eq!(answer(lowest - 1), refused(4, place), "tag {tag}");
+    for (example, field) in in_examples(tag) {
+        let place = field.head + 3 + index * width;
+        let answer = |value: usize| {
+            let mut body = field.body.clone();
+            body[index * width..][..width].copy_from_slice(&value.to_be_bytes()[8 - width..]);
+            refusal_of(&with_body(&example, tag, &body))
+        };
+        for inside in [lowest, highest] {
+            assert_ne!(answer(inside), refused(4, place), "tag {tag}: {inside}");
+        }
+        assert_eq!(answer(highest + 1), refused(4, place), "tag {tag}");
+        if lowest > 0 {
+            assert_eq!(answer(lowest - 1), refused(4, place), "tag {tag}");
+        }
     }
 }
 
-/// A body of this length is taken, or refused with 3 at the head.
-fn length_refused(tag: u8, length: usize) -> bool {
+/// A body of this length is refused with 3 at the head, or is not.
+fn hold_length(tag: u8, length: usize, is_refused: bool) {
     let rising = |i: usize| if i % 2 == 0 { 0 } else { (i / 2 + 1) as u8 };
     let body: Vec<u8> = (0..length).map(rising).collect();
-    refusal_of(&with_body(tag, &body)) == refused(3, field_of(tag).head)
+    for (example, field) in in_examples(tag) {
+        let answer = refusal_of(&with_body(&example, tag, &body));
+        let refused = answer == refused(3, field.head);
+        assert_eq!(refused, is_refused, "tag {tag}: {length}");
+    }
 }
 
 fn rows_of_fields() -> Vec<(u8, Vec<String>)> {
@@ -167,50 +190,89 @@ fn line_names() -> Vec<String> {
     names.split(", ").map(str::to_string).collect()
 }
 
+/// The kinds of the page, from the first on: their names, and the tags of their fields.
+fn kinds() -> Vec<(String, Vec<u8>)> {
+    let rows = table(&page(), "kind", "name").into_iter().enumerate();
+    rows.map(|(index, row)| {
+        assert_eq!(number(&row[0]), index + 1);
+        let runs = row[2].split(", ").map(ends);
+        let tags = runs.flat_map(|(first, last)| first as u8..=last as u8);
+        (row[1].clone(), tags.collect())
+    })
+    .collect()
+}
+
 #[test]
-fn the_fields_are_those_of_the_table() {
+fn each_kind_has_the_fields_of_the_table() {
+    let examples = [example_named("standard.axle"), measured(), half_shafts()];
+    let kinds = kinds();
+    assert_eq!(kinds.len(), examples.len());
+    for (index, (example, (name, fields))) in examples.iter().zip(kinds).enumerate() {
+        assert_eq!(usize::from(example[3]), index + 1, "the example's kind");
+        assert_eq!(refusal_of(example), None, "{name}");
+        assert_eq!(tags(example), fields, "{name}");
+    }
+    let no_kind = examples.len() as u8 + 1;
+    assert_eq!(refusal_of(&[1, 0, 1, no_kind]), refused(4, 3));
+}
+
+#[test]
+fn the_table_has_every_field_once() {
     let tags: Vec<u8> = rows_of_fields().iter().map(|(tag, _)| *tag).collect();
-    let measured: Vec<u8> = fields(&example()).iter().map(|field| field.tag).collect();
-    assert_eq!(tags, measured);
-    let standard = example_named("standard.axle");
-    let standard: Vec<u8> = fields(&standard).iter().map(|field| field.tag).collect();
-    assert_eq!(tags[..5], standard);
+    let mut of_kinds: Vec<u8> = kinds().into_iter().flat_map(|(_, tags)| tags).collect();
+    of_kinds.sort_unstable();
+    of_kinds.dedup();
+    assert_eq!(tags, of_kinds);
+}
+
+/// The rows of readings: their length is said for each point.
+fn is_for_each_point(row: &[String]) -> bool {
+    row[2].ends_with(" for each point")
 }
 
 #[test]
 fn lengths_are_those_of_the_table() {
-    for (tag, row) in &rows_of_fields()[..7] {
+    let rows = rows_of_fields().into_iter();
+    let mut count = 0;
+    for (tag, row) in rows.filter(|(_, row)| !is_for_each_point(row)) {
         let (shortest, longest) = ends(&row[2]);
         let (counts, width) = row[3].split_once(" of ").expect("so many of a width");
         let (fewest, most) = ends(counts);
         let width = number(width.split(' ').next().expect("a width"));
         assert_eq!((shortest, longest), (fewest * width, most * width));
         for length in [shortest, longest] {
-            assert!(!length_refused(*tag, length), "tag {tag}: {length}");
+            hold_length(tag, length, false);
         }
         for length in [shortest - 1, longest + 1, longest + width, 0] {
-            assert!(length_refused(*tag, length), "tag {tag}: {length}");
+            hold_length(tag, length, true);
         }
         if fewest < most {
-            assert!(length_refused(*tag, shortest + 1), "an odd length");
-            assert!(length_refused(*tag, shortest - width));
+            // An odd length, and one number too few.
+            hold_length(tag, shortest + 1, true);
+            hold_length(tag, shortest - width, true);
         }
+        count += 1;
     }
+    assert_eq!(count, 8);
 }
 
 #[test]
 fn rows_have_their_length_for_each_point() {
-    let row = &rows_of_fields()[7].1;
-    assert_eq!(row[2], "8 for each point");
-    assert_eq!(row[3], "2 of 4 bytes for each point");
-    assert_eq!(row[4..], ["", ""], "the limits of a row are said in words");
-    let width = 2 * 4;
-    let rows = field_of(8).body;
-    assert_eq!(rows.len(), 4 * width);
-    assert_eq!(refusal_of(&example()), None);
-    for length in [0, 3 * width, 4 * width - 1, 4 * width + 1, 5 * width] {
-        assert!(length_refused(8, length));
+    let rows = rows_of_fields().into_iter();
+    let mut found = Vec::new();
+    for (tag, row) in rows.filter(|(_, row)| is_for_each_point(row)) {
+        let width = number(row[2].trim_end_matches(" for each point"));
+        let numbers = row[3].strip_suffix(" of 4 bytes for each point");
+        assert_eq!(4 * number(numbers.expect("torques of 4 bytes")), width);
+        assert_eq!(row[4..], ["", ""], "the limits of a row are said in words");
+        // Both examples have four points. 32 and 48 are the lengths of the two kinds.
+        let all = 4 * width;
+        for length in [0, all - width, all - 1, all + 1, all + width, 32, 48] {
+            hold_length(tag, length, length != all);
+        }
+        found.push((tag, width));
     }
+    assert_eq!(found, [(8, 8), (10, 12)]);
 }
 
 #[test]
@@ -223,7 +285,7 @@ fn ranges_are_those_of_the_tables() {
     assert_eq!(numbers.len(), 9);
     for (index, row) in numbers.iter().enumerate() {
         assert_eq!(number(&row[0]), index);
-        for tag in [6, 7] {
+        for tag in [6, 7, 9] {
             hold_range(tag, index, 2, number(&row[5]), number(&row[6]));
         }
     }
@@ -242,15 +304,47 @@ fn offset(text: &str, speeds: usize, torques: usize) -> usize {
 #[test]
 fn fields_stand_where_the_table_says() {
     let rows = table(&page(), "tag", "head");
-    for name in ["measured.axle", "bench-run.axle"] {
-        let fields = fields(&example_named(name));
+    for (index, row) in rows.iter().enumerate() {
+        assert_eq!(number(&row[0]), index + 1);
+    }
+    assert_eq!(rows.len(), rows_of_fields().len());
+    let examples = [
+        measured(),
+        example_named("bench-run.axle"),
+        half_shafts(),
+        data_over(&half_shafts(), 5, 7),
+    ];
+    for example in examples {
+        let fields = fields(&example);
         let (speeds, torques) = (fields[3].body.len() / 2, fields[4].body.len() / 2);
-        assert_eq!(rows.len(), fields.len());
-        for (row, field) in rows.iter().zip(fields) {
-            assert_eq!(number(&row[0]), usize::from(field.tag));
-            assert_eq!(offset(&row[1], speeds, torques), field.head, "{name}");
-            assert_eq!(offset(&row[2], speeds, torques), field.head + 3, "{name}");
+        for field in fields {
+            let row = &rows[usize::from(field.tag) - 1];
+            assert_eq!(offset(&row[1], speeds, torques), field.head, "{row:?}");
+            assert_eq!(offset(&row[2], speeds, torques), field.head + 3, "{row:?}");
         }
+    }
+}
+
+/// What the page says of a place within the rows, at each torque of each row.
+#[test]
+fn a_place_leads_to_its_torque() {
+    let (speeds, torques) = (5, 7);
+    let words = "(8 of kind 2, 12 of kind 3)";
+    assert!(page().contains(words), "the page says how long a row is");
+    for (example, tag, width) in [(measured(), 8, 8), (half_shafts(), 10, 12)] {
+        let data = data_over(&example, speeds, torques);
+        let body = field_of(&data, tag).expect("readings").head + 3;
+        for place in (body..data.len()).step_by(4) {
+            let mut data = data.clone();
+            data[place..place + 4].copy_from_slice(&[255; 4]);
+            assert_eq!(refusal_of(&data), refused(7, place));
+        }
+        // Torque 3 of speed 2 is 4 Nm, and its row has 4.00 Nm at the input and as much in all at the output.
+        let row = body + width * (2 * usize::from(torques) + 3);
+        let torque =
+            |at: usize| u32::from_be_bytes([data[at], data[at + 1], data[at + 2], data[at + 3]]);
+        let outputs: u32 = (row + 4..row + width).step_by(4).map(torque).sum();
+        assert_eq!((torque(row), outputs), (400, 400));
     }
 }
 
@@ -262,9 +356,9 @@ fn point(text: &str) -> (u32, u32) {
     (digits(speed), digits(torque))
 }
 
-/// The first bytes of the example, or the example with bytes replaced or put after its end.
-fn changed(tried: &str) -> Vec<u8> {
-    let mut data = example();
+/// The first bytes of an example, or the example with bytes replaced or put after its end.
+fn changed(example: &[u8], tried: &str) -> Vec<u8> {
+    let mut data = example.to_vec();
     if let Some(count) = tried.strip_prefix("first ") {
         data.truncate(number(count.trim_end_matches(" bytes")));
         return data;
@@ -278,16 +372,16 @@ fn changed(tried: &str) -> Vec<u8> {
 }
 
 /// What the library refuses, tried as the page says.
-fn tried_refusal(tried: &str) -> Option<Refusal> {
+fn tried_refusal(example: &[u8], tried: &str) -> Option<Refusal> {
     let mut entries = [0; 2_048];
     if let Some(lent) = tried.strip_suffix(" entries lent") {
-        return build(&example(), &mut entries[..number(lent)]).err();
+        return build(example, &mut entries[..number(lent)]).err();
     }
     let asked = match tried.strip_prefix("asked ") {
         Some(asked) => asked,
-        None => return refusal_of(&changed(tried)),
+        None => return refusal_of(&changed(example, tried)),
     };
-    let grid = build(&example(), &mut entries).expect("the example is accepted");
+    let grid = build(example, &mut entries).expect("the example is accepted");
     if let Some(asked) = asked.strip_prefix("at ") {
         let (speed, torque) = point(asked);
         return loss(&grid, &entries, speed, torque).err();
@@ -298,30 +392,45 @@ fn tried_refusal(tried: &str) -> Option<Refusal> {
     loss(&grid, &entries[..number(lent)], 1_000, 100_000).err()
 }
 
-#[test]
-fn refusals_are_those_of_the_table() {
-    let rows = table(&page(), "number", "when");
+/// Tries the refusals of a table on an example. The numbers of the table, each once.
+fn hold_refusals(second_column: &str, example: &[u8]) -> Vec<usize> {
+    let rows = table(&page(), "number", second_column);
     for row in &rows {
         let (told, place) = row[4].split_once(" at ").expect("a number and a place");
         assert_eq!(told, row[0]);
         let expected = refused(number(told) as u32, number(place));
-        assert_eq!(tried_refusal(&row[3]), expected, "{}", row[3]);
+        assert_eq!(tried_refusal(example, &row[3]), expected, "{}", row[3]);
     }
     let mut numbers: Vec<usize> = rows.iter().map(|row| number(&row[0])).collect();
     numbers.dedup();
-    let table: Vec<usize> = (1..=12).chain(20..=22).collect();
-    assert_eq!(numbers, table);
+    numbers
 }
 
-/// Measured data over a grid of so many speeds and torques, with the same torque at the input and at the output of a row.
-fn data_over(speeds: u16, torques: u16) -> Vec<u8> {
+#[test]
+fn refusals_are_those_of_the_table() {
+    let all: Vec<usize> = (1..=12).chain(20..=22).collect();
+    assert_eq!(hold_refusals("when", &measured()), all);
+}
+
+#[test]
+fn refusals_of_kind_3_are_those_of_the_table() {
+    let numbers = hold_refusals("of kind 3", &half_shafts());
+    assert_eq!(numbers, [1, 2, 3, 4, 7, 8, 9, 10, 12]);
+}
+
+/// An example over a grid of so many speeds and torques, with the same torque at the input and at the output of a row; of kind 3 a quarter of it is at the right.
+fn data_over(example: &[u8], speeds: u16, torques: u16) -> Vec<u8> {
     let numbers = |count: u16| (1..=count).flat_map(u16::to_be_bytes).collect();
-    let row = |torque: u32| [100 * torque; 2].into_iter().flat_map(u32::to_be_bytes);
-    let rows = |_| (1..=u32::from(torques)).flat_map(row);
-    laid_out(|field| match field.tag {
+    let rows = |row: fn(u32) -> Vec<u32>| {
+        let of_a_speed = (1..=u32::from(torques)).flat_map(row);
+        let bytes: Vec<u8> = of_a_speed.flat_map(u32::to_be_bytes).collect();
+        bytes.repeat(usize::from(speeds))
+    };
+    laid_out(example, |field| match field.tag {
         4 => numbers(speeds),
         5 => numbers(torques),
-        8 => (0..speeds).flat_map(rows).collect(),
+        8 => rows(|torque| vec![100 * torque; 2]),
+        10 => rows(|torque| vec![100 * torque, 75 * torque, 25 * torque]),
         _ => field.body,
     })
 }
@@ -335,7 +444,10 @@ fn the_longest_file_has_the_length_that_the_page_says() {
         let counts = rows_of_fields()[row].1[3].clone();
         ends(counts.split(" of ").next().expect("how many numbers")).1 as u16
     };
-    let data = data_over(most(3), most(4));
-    assert_eq!(data.len(), told);
-    assert_eq!(refusal_of(&data), None);
+    let lengths = [measured(), half_shafts()].map(|example| {
+        let data = data_over(&example, most(3), most(4));
+        assert_eq!(refusal_of(&data), None);
+        data.len()
+    });
+    assert_eq!(lengths, [16_640, told]);
 }

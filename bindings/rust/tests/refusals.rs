@@ -1,8 +1,10 @@
-//! Every refusal of a build with its place, and how refusals print.
+//! Every refusal of a build with its place, and how refusals print. Those of rows and sensors are
+//! tried on kind 2 here, and on kind 3 in half_shafts.rs.
 
 use axle::{build, Map, Refusal, READING_LIMIT};
 
 const MEASURED: &[u8] = include_bytes!("../../../examples/measured.axle");
+const HALF_SHAFTS: &[u8] = include_bytes!("../../../examples/half-shafts.axle");
 
 /// The refusal of the measured example with other bytes from an offset on.
 fn refused(offset: usize, bytes: &[u8]) -> (u32, usize) {
@@ -29,9 +31,19 @@ fn fields() {
     assert_eq!(refused(2, &[2]), (3, 0));
 }
 
+/// Tag 8 is of kind 2 alone, and the tags 9 and 10 are of kind 3 alone.
+#[test]
+fn fields_of_another_kind() {
+    assert_eq!(refused(3, &[1]), (12, 27));
+    assert_eq!(refused(3, &[3]), (2, 69));
+    assert_eq!(refused(69, &[9]), (2, 69));
+    assert_eq!(refused(69, &[10]), (2, 69));
+}
+
 #[test]
 fn numbers_of_the_component() {
     assert_eq!(refused(3, &[0]), (4, 3));
+    assert_eq!(refused(3, &[4]), (4, 3));
     assert_eq!(refused(7, &[6]), (4, 7));
     assert_eq!(refused(11, &999u16.to_be_bytes()), (4, 11));
     assert_eq!(refused(16, &[0, 0]), (4, 16));
@@ -81,11 +93,13 @@ fn room_and_length() {
 #[test]
 fn nothing_past_the_reading_limit_changes_the_answer() {
     let limit = READING_LIMIT as usize;
-    for byte in [0, 1, 8, 255] {
-        let mut data = MEASURED.to_vec();
-        data.resize(2 * limit, byte);
-        assert_eq!(refusal_of(&data), (12, 104));
-        assert_eq!(refusal_of(&data[..limit]), (12, 104));
+    for (example, length) in [(MEASURED, 104), (HALF_SHAFTS, 141)] {
+        for byte in [0, 1, 8, 10, 255] {
+            let mut data = example.to_vec();
+            data.resize(2 * limit, byte);
+            assert_eq!(refusal_of(&data), (12, length));
+            assert_eq!(refusal_of(&data[..limit]), (12, length));
+        }
     }
 }
 

@@ -2,7 +2,7 @@
 use Prim.Native.Nat.{ℕ, _+_, _*_, _≤_, _<_}
 use mathlib.Core.Path.{_≡_, sym, ap, _∙_}
 use mathlib.Core.Bool.{true}
-use mathlib.Core.List.{List}
+use mathlib.Core.List.{List, [], _∷_}
 use mathlib.Core.Logic.{_⊎_, inl, inr}
 use native.Mathlib.Omega.{arith}
 use native.Mathlib.Decide.{decLe}
@@ -13,11 +13,14 @@ use Rattle.refusal.proofs.First.{first-all}
 use Rattle.grid.specs.Map.{speedsOf, torquesOf, validMap}
 use Rattle.grid.specs.declared.Grid.{Grid}
 use Rattle.component.specs.Component.{Component, Kind, standard, measured}
-use Rattle.layout.specs.Rules.{AreBytes, Rules, KindRules}
+use Rattle.sensor.specs.declared.Sensor.{Sensor}
+use Rattle.layout.specs.Rules.{AreBytes, AllSensorRules, Rules, KindRules}
 use Rattle.loss.specs.Exact.{IsNumber, EntryAccurate}
 use Rattle.loss.proofs.Accuracy.{standard-is-number, standard-entry-accurate, measured-is-number, measured-entry-accurate, wider, fractions-near}
-use Rattle.loss.proofs.Rows.{one-output-in-range}
-use Rattle.map.specs.Build.{entry, entryOfKind, check, checkOfKind, speedCheck, rowsCheck}
+use Rattle.loss.specs.Measured.{AllInRange}
+use Rattle.rows.specs.Rows.{outputsAt, rowAt}
+use Rattle.rows.proofs.RowSensors.{outputs-count}
+use Rattle.map.specs.Build.{pointStart, entry, entryOfKind, check, checkOfKind, speedCheck, rowsCheck}
 use Rattle.map.specs.Answers.{Builds}
 use Rattle.map.specs.declared.Built.{Built}
 use Rattle.refusal.specs.declared.Answer.the-variants.{Accepted}
@@ -36,25 +39,37 @@ use Rattle.accuracy.proofs.Limits.{limits}
 -- how far an entry may be above its exact value, in hundredths of Nm
 pub excessOf : Kind → ℕ
 excessOf standard = 1
-excessOf (measured input output rows) = 2
+excessOf (measured input outputs rows) = 2
 
 pub excess-most : (kind : Kind) → excessOf kind ≤ 2
 unfolding excessOf
 excess-most standard = omega arith
-excess-most (measured input output rows) = omega arith
+excess-most (measured input outputs rows) = omega arith
+
+-- each output sensor of a row keeps its rules
+outputs-in-range : (sensors : List Sensor) (bytes : List ℕ) (at : ℕ) → AllSensorRules sensors → AllInRange (outputsAt sensors bytes at)
+unfolding outputsAt
+outputs-in-range [] bytes at r = tt
+outputs-in-range (sensor ∷ sensors) bytes at r = (r .0, outputs-in-range sensors bytes (at + 4) (r .1))
 
 kind-number : (c : Component) (i j : ℕ) (kind : Kind) → IsNumber (exactOfKind c i j kind)
 unfolding exactOfKind
 kind-number c i j standard = standard-is-number (c .line) (c .ratio) (getD (c .torques) j 0)
-kind-number c i j (measured input output rows) = measured-is-number _
+kind-number c i j (measured input outputs rows) = measured-is-number _
 
 kind-accurate : (c : Component) (i j : ℕ) (kind : Kind) → Rules c → KindRules (length (c .speeds)) (length (c .torques)) kind → checkOfKind c i j kind ≡ accepted tt
     → EntryAccurate (excessOf kind) (exactOfKind c i j kind) (entryOfKind c i j kind)
-unfolding exactOfKind checkOfKind entryOfKind excessOf
+unfolding exactOfKind checkOfKind entryOfKind excessOf rowAt
 kind-accurate c i j standard r k e = standard-entry-accurate (c .line) (c .ratio) (getD (c .torques) j 0)
-kind-accurate c i j (measured input output rows) r k e =
+kind-accurate c i j (measured input outputs rows) r k e =
     measured-entry-accurate _
-    (one-output-in-range (r .ratio .1) (k .0) (k .1) (row-right _ _ _ (placed-accepted _ _ tt e) .loss))
+    (record {
+      ratio = r .ratio .1;
+      sensor = k .sensors .0;
+      outputs = outputs-in-range outputs (rows .bytes) _ (k .sensors .1);
+      few = omega (arith, outputs-count outputs (rows .bytes) (pointStart c i j input outputs + 4), k .most-outputs);
+      loss = row-right _ _ (placed-accepted _ _ tt e) .loss;
+    })
 
 pub exact-number : (c : Component) (i j : ℕ) → IsNumber (exactAt c i j)
 unfolding exactAt

@@ -2,22 +2,22 @@
 use Prim.Native.Nat.{ℕ, _+_, _*_, _≤_}
 use mathlib.Core.Path.{_≡_, refl, ap}
 use mathlib.Core.Bool.{Bool}
-use mathlib.Core.List.{List}
-use mathlib.Core.Logic.{⊎-elim}
+use mathlib.Core.List.{List, [], _∷_}
+use mathlib.Core.Logic.{inl, inr, ⊎-elim}
 use native.Mathlib.Omega.{arith}
 use lib.ListN.{length}
 use Rattle.refusal.specs.Outcome.{Told, refusal, Outcome, accepted, refused}
 use Rattle.refusal.specs.Table.{told}
 use Rattle.refusal.specs.declared.Refusal.{Refusal}
 use Rattle.grid.specs.declared.Range.{Range}
-use Rattle.component.specs.Component.{Component, Kind, standard, measured}
-use Rattle.layout.specs.Rules.{AreBytes}
+use Rattle.component.specs.Component.{Component, Kind, standard, measured, sensorTags}
+use Rattle.layout.specs.Rules.{AreBytes, sensorsStart}
 use Rattle.layout.specs.Faults.{HeadFault, head-incomplete, other-tag, none-left, other-length, body-incomplete, FieldFault, in-head, in-body, NumberFault, AxisFault, TorqueFault, numbers-wrong, step-wrong, SensorFault}
-use Rattle.layout.specs.Acceptance.{Fault, in-kind, in-line, in-ratio, in-speeds, in-torques, in-input, in-output, in-rows, after-torques, after-rows}
-use Rattle.rows.specs.Rows.{Bench, Torques}
+use Rattle.layout.specs.Acceptance.{Fault, in-kind, in-line, in-ratio, in-speeds, in-torques, SensorsFault, in-sensors, in-rows, after-torques, after-rows}
+use Rattle.loss.specs.Measured.{Output, Row}
 use Rattle.map.specs.Build.{LossMap, points, build}
 use Rattle.map.specs.Acceptance.{PointFault, Reason, in-data, too-few, in-row}
-use Rattle.rows.specs.Acceptance.{RowFault, input-above, output-above, off-axis, negative, too-large}
+use Rattle.rows.specs.Acceptance.{OutputsFault, RowFault, input-above, output-above, off-axis, negative, too-large}
 use Rattle.map.specs.Answers.{Builds}
 use Rattle.map.specs.declared.Built.{Built}
 use Rattle.refusal.specs.declared.Answer.the-variants.{Refused}
@@ -61,28 +61,37 @@ module _ (bytes : List ℕ) (t : Told) where
   of-sensor : (body : List ℕ) (place : ℕ) → SensorFault body place t → OfBuild t
   of-sensor body place h = told-so t 4 (place + 2 * h .index) (h .told) (omega arith) (omega arith)
 
+  of-sensors : (at : ℕ) (tags : List ℕ) → SensorsFault bytes at tags t → OfBuild t
+  of-sensors at [] h = absurd h
+  of-sensors at (tag ∷ tags) (inl h) = of-field at tag _ _ of-sensor h
+  of-sensors at (tag ∷ tags) (inr h) = of-sensors (at + 21) tags (h .2)
+
   of-fault : Fault bytes t → OfBuild t
   of-fault (in-kind h) = of-field _ _ _ _ (of-number _) h
   of-fault (in-line _ _ _ h) = of-field _ _ _ _ (of-number _) h
   of-fault (in-ratio _ _ _ _ _ _ h) = of-field _ _ _ _ (of-number _) h
   of-fault (in-speeds _ _ _ _ h) = of-field _ _ _ _ (of-axis _) h
   of-fault (in-torques _ _ _ _ _ _ h) = of-field _ _ _ _ of-torque h
-  of-fault (in-input _ _ _ h) = of-field _ _ _ _ of-sensor h
-  of-fault (in-output _ _ _ _ _ h) = of-field _ _ _ _ of-sensor h
+  of-fault (in-sensors kind m n _ _ h) = of-sensors (sensorsStart m n) (sensorTags kind) h
   of-fault (in-rows _ _ _ _ _ _ _ h) = of-field _ _ _ _ (λ body place none. absurd none) h
   of-fault (after-torques _ _ _ _ e) = told-so t 12 _ e (omega arith) (omega arith)
   of-fault (after-rows _ _ _ _ _ _ _ _ _ _ e) = told-so t 12 _ e (omega arith) (omega arith)
 
-of-row : (bench : Bench) (torque : ℕ) (row : Torques) (place : ℕ) (t : Told) → RowFault bench torque row place t → OfBuild t
-of-row bench torque row place t (input-above _ e) = told-so t 7 place e (omega arith) (omega arith)
-of-row bench torque row place t (output-above _ _ e) = told-so t 7 (place + 4) e (omega arith) (omega arith)
-of-row bench torque row place t (off-axis _ _ _ e) = told-so t 8 (place + 4) e (omega arith) (omega arith)
-of-row bench torque row place t (negative _ _ _ _ _ e) = told-so t 9 place e (omega arith) (omega arith)
-of-row bench torque row place t (too-large _ _ _ _ _ _ e) = told-so t 10 place e (omega arith) (omega arith)
+of-outputs : (os : List Output) (place : ℕ) (t : Told) → OutputsFault os place t → OfBuild t
+of-outputs [] place t h = absurd h
+of-outputs (o ∷ os) place t (inl h) = told-so t 7 place (h .1) (omega arith) (omega arith)
+of-outputs (o ∷ os) place t (inr h) = of-outputs os (place + 4) t (h .1)
+
+of-row : (torque : ℕ) (row : Row) (place : ℕ) (t : Told) → RowFault torque row place t → OfBuild t
+of-row torque row place t (input-above _ e) = told-so t 7 place e (omega arith) (omega arith)
+of-row torque row place t (output-above _ h) = of-outputs (row .outputs) (place + 4) t h
+of-row torque row place t (off-axis _ _ _ e) = told-so t 8 (place + 4) e (omega arith) (omega arith)
+of-row torque row place t (negative _ _ _ _ _ e) = told-so t 9 place e (omega arith) (omega arith)
+of-row torque row place t (too-large _ _ _ _ _ _ e) = told-so t 10 place e (omega arith) (omega arith)
 
 of-point : (c : Component) (i j : ℕ) (kind : Kind) (t : Told) → PointFault c i j kind t → OfBuild t
 of-point c i j standard t f = absurd f
-of-point c i j (measured input output rows) t f = of-row _ _ _ _ t f
+of-point c i j (measured input outputs rows) t f = of-row _ _ _ t f
 
 of-reason : (bytes : List ℕ) (lent : ℕ) (t : Told) → Reason bytes lent t → OfBuild t
 of-reason bytes lent t (in-data f) = of-fault bytes t f

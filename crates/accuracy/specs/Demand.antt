@@ -10,8 +10,7 @@ use Rattle.grid.specs.declared.Grid.{Grid}
 use Rattle.component.specs.Component.{Component, Kind, standard, measured, component}
 use Rattle.layout.specs.Rules.{AreBytes}
 use Rattle.loss.specs.Exact.{Cut, IsNumber, Near, EntryAccurate, cut, exactStandard, exactMeasured}
-use Rattle.rows.specs.Rows.{rowAt, rowOf}
-use Rattle.map.specs.Build.{pointIndex}
+use Rattle.map.specs.Build.{pointRow}
 use Rattle.map.specs.Answers.{Builds}
 use Rattle.map.specs.declared.Built.{Built}
 use Rattle.refusal.specs.declared.Answer.the-variants.{Accepted}
@@ -21,11 +20,10 @@ use Rattle.accuracy.specs.Claim.{OneStretch, Figures, Held}
 
 -- ---- the exact entries of component data, by the indices of a point's speed and torque
 
--- For kind 1 it is the standard loss, not rounded; for kind 2 that of the point's row, whose torques stand in the bytes of tag 8.
+-- For kind 1 it is the standard loss, not rounded; for kinds 2 and 3 that of the point's row, whose torques stand in the bytes of the rows.
 unfoldable pub exactOfKind : Component → (speed torque : ℕ) → Kind → Cut
 exactOfKind c speed torque standard = cut (exactStandard (c .line) (c .ratio) (getD (c .torques) torque 0))
-exactOfKind c speed torque (measured input output rows) =
-    cut (exactMeasured (rowOf (record { ratio = c .ratio; input = input; output = output }) (rowAt (rows .bytes) (pointIndex c speed torque))))
+exactOfKind c speed torque (measured input outputs rows) = cut (exactMeasured (pointRow c speed torque input outputs rows))
 
 unfoldable pub exactAt : Component → (speed torque : ℕ) → Cut
 exactAt c speed torque = exactOfKind c speed torque (c .kind)

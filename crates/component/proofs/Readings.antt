@@ -20,7 +20,7 @@ use Rattle.fields.specs.Field.{Field, head, field, exactly, number}
 use Rattle.component.specs.Component.{Run, Axle, AxesNumbers, Kind, kindNumber, Rows, Component, axleFields, axesFields, kindFields, component}
 use Rattle.grid.specs.Map.{speedsOf, torquesOf}
 use Rattle.grid.specs.declared.Grid.{Grid}
-use Rattle.component.specs.Answers.{CountsWithin, NoNumbers, kindOf, rowsOf, Reads}
+use Rattle.component.specs.Answers.{CountsWithin, NoNumbers, kindOf, outputsOf, rowsOf, Reads}
 use Rattle.sensor.specs.declared.Sensor.{Sensor}
 use Rattle.component.specs.declared.Measured.{Measured}
 use Rattle.component.specs.declared.Reading.{Reading}
@@ -48,32 +48,33 @@ number-within bytes at tag allowed range f e =
     let value : v .0 ≡ f .value = ap (λ (g : Field ℕ). g .value) (same-value _ f (v .2)) in
     rw (← value, ← same) (t .0)
 
-axle-kind : (bytes : List ℕ) (axle : Run Axle) → axleFields bytes 0 ≡ accepted axle → within (1 to 2) (axle .value .kind) ≡ true
+axle-kind : (bytes : List ℕ) (axle : Run Axle) → axleFields bytes 0 ≡ accepted axle → within (1 to 3) (axle .value .kind) ≡ true
 unfolding axleFields
 axle-kind bytes axle e =
-    let k = then-accepted (field bytes 0 1 (exactly 1) (number (1 to 2))) _ axle e in
+    let k = then-accepted (field bytes 0 1 (exactly 1) (number (1 to 3))) _ axle e in
     let l = then-accepted (field bytes (k .0 .next) 2 (exactly 1) (number (1 to 5))) _ axle (k .2) in
     let r = then-accepted (field bytes (l .0 .next) 3 (exactly 2) (number (1000 to 20000))) _ axle (l .2) in
     let kind : k .0 .value ≡ axle .value .kind = ap (λ (a : Run Axle). a .value .kind) (same-value _ axle (r .2)) in
-    rw (← kind) (number-within bytes 0 1 (exactly 1) (1 to 2) (k .0) (k .1))
+    rw (← kind) (number-within bytes 0 1 (exactly 1) (1 to 3) (k .0) (k .1))
 
-kind-numbered : (kind : ℕ) (input output : Sensor) (rows : Rows) → 1 ≤ kind → kind ≤ 2 → kind ≡ kindNumber (kindOf kind input output rows)
-kind-numbered zero input output rows h k = absurd (omega arith)
-kind-numbered (suc zero) input output rows h k = refl
-kind-numbered (suc (suc zero)) input output rows h k = refl
-kind-numbered (suc (suc (suc n))) input output rows h k = absurd (omega arith)
+kind-numbered : (kind : ℕ) (input output right : Sensor) (rows : Rows) → 1 ≤ kind → kind ≤ 3 → kind ≡ kindNumber (kindOf kind input (outputsOf kind output right) rows)
+kind-numbered zero input output right rows h k = absurd (omega arith)
+kind-numbered (suc zero) input output right rows h k = refl
+kind-numbered (suc (suc zero)) input output right rows h k = refl
+kind-numbered (suc (suc (suc zero))) input output right rows h k = refl
+kind-numbered (suc (suc (suc (suc n)))) input output right rows h k = absurd (omega arith)
 
 -- the kind that was read has its number
 pub kind-said : (bytes : List ℕ) (axle : Run Axle) → accepted axle ≡ axleFields bytes 0 → (m : Measured) (line ratio : ℕ) (speeds torques : List ℕ)
-    → accepted (record { kind = kindOf (axle .value .kind) (m .input) (m .output) (rowsOf bytes (m .rows)); line = line; ratio = ratio; speeds = speeds; torques = torques }) ≡ component bytes
+    → accepted (record { kind = kindOf (axle .value .kind) (m .input) (outputsOf (axle .value .kind) (m .output) (m .right)) (rowsOf bytes (m .rows)); line = line; ratio = ratio; speeds = speeds; torques = torques }) ≡ component bytes
     → (says : Component) → component bytes ≡ accepted says → axle .value .kind ≡ kindNumber (says .kind)
 unfolding within
 kind-said bytes axle a m line ratio speeds torques e says f =
     let w = axle-kind bytes axle (sym a) in
     let low = leb-true 1 (axle .value .kind) (and-fst _ _ w) in
-    let high = leb-true (axle .value .kind) 2 (and-snd (leb 1 (axle .value .kind)) _ w) in
+    let high = leb-true (axle .value .kind) 3 (and-snd (leb 1 (axle .value .kind)) _ w) in
     let same = ap (λ (c : Component). kindNumber (c .kind)) (same-value _ says (e ∙ f)) in
-    kind-numbered (axle .value .kind) (m .input) (m .output) (rowsOf bytes (m .rows)) low high ∙ same
+    kind-numbered (axle .value .kind) (m .input) (m .output) (m .right) (rowsOf bytes (m .rows)) low high ∙ same
 
 -- axes with no numbers
 pub no-counts : (grid : Grid) → grid .speeds .count ≡ 0 → grid .torques .count ≡ 0 → CountsWithin grid

@@ -1,6 +1,6 @@
 -- What the code's answers say in document 01's terms.
 use Prim.Native.Nat.{ℕ, _≤_}
-use mathlib.Core.List.{List}
+use mathlib.Core.List.{List, [], _∷_}
 use mathlib.Core.Path.{_≡_}
 use lib.Dec.{eqb}
 use lib.ListN.{length}
@@ -17,6 +17,8 @@ use Rattle.component.specs.declared.AxesAnswer.{AxesAnswer}
 use Rattle.component.specs.declared.AxesAnswer.the-variants.{Read as AxesAre, Refused as AxesRefused}
 use Rattle.component.specs.declared.AxesRead.{AxesRead}
 use Rattle.component.specs.declared.DataPart.{DataPart}
+use Rattle.component.specs.declared.OutputsRead.{OutputsRead}
+use Rattle.component.specs.declared.OutputsRead.the-variants.{Read as OutputsAre, Refused as OutputsRefused}
 use Rattle.component.specs.declared.Measured.{Measured}
 use Rattle.component.specs.declared.MeasuredRead.{MeasuredRead}
 use Rattle.component.specs.declared.MeasuredRead.the-variants.{Read as MeasuredIs, Refused as MeasuredRefused}
@@ -55,16 +57,30 @@ pub record CountsWithin (grid : Grid) : Type 0 where
 abbrev pub rowsOf : List ℕ → DataPart → Rows
 rowsOf bytes part = record { start = part .start; bytes = between bytes (part .start) (part .end) }
 
-abbrev pub measuredReadOf : List ℕ → MeasuredRead → Outcome (Run Kind)
-measuredReadOf bytes (MeasuredIs m) = accepted (record { value = measured (m .input) (m .output) (rowsOf bytes (m .rows)); next = m .next .at })
-measuredReadOf bytes (MeasuredRefused x) = refused (told x)
+-- the output sensors of a measured kind: of kind 2 the right one means nothing
+abbrev pub outputsOf : (kind : ℕ) (output right : Sensor) → List Sensor
+outputsOf kind output right = output ∷ (if eqb kind 2 then [] else right ∷ [])
+
+abbrev pub outputsReadOf : ℕ → OutputsRead → Outcome (Run (List Sensor))
+outputsReadOf kind (OutputsAre o) = accepted (record { value = outputsOf kind (o .output) (o .right); next = o .next .at })
+outputsReadOf kind (OutputsRefused x) = refused (told x)
+
+abbrev pub measuredReadOf : List ℕ → ℕ → MeasuredRead → Outcome (Run Kind)
+measuredReadOf bytes kind (MeasuredIs m) = accepted (record {
+  value = measured (m .input) (outputsOf kind (m .output) (m .right)) (rowsOf bytes (m .rows));
+  next = m .next .at;
+})
+measuredReadOf bytes kind (MeasuredRefused x) = refused (told x)
 
 -- the kind by its number, with the fields that only measured data has
-abbrev pub kindOf : ℕ → Sensor → Sensor → Rows → Kind
-kindOf kind input output rows = if eqb kind 1 then standard else measured input output rows
+abbrev pub kindOf : ℕ → Sensor → List Sensor → Rows → Kind
+kindOf kind input outputs rows = if eqb kind 1 then standard else measured input outputs rows
 
 abbrev pub kindReadOf : List ℕ → ℕ → MeasuredRead → Outcome (Run Kind)
-kindReadOf bytes kind (MeasuredIs m) = accepted (record { value = kindOf kind (m .input) (m .output) (rowsOf bytes (m .rows)); next = m .next .at })
+kindReadOf bytes kind (MeasuredIs m) = accepted (record {
+  value = kindOf kind (m .input) (outputsOf kind (m .output) (m .right)) (rowsOf bytes (m .rows));
+  next = m .next .at;
+})
 kindReadOf bytes kind (MeasuredRefused x) = refused (told x)
 
 -- a part that lies within so many bytes
@@ -92,10 +108,23 @@ noSensor = record {
 abbrev pub noPart : DataPart
 noPart = record { start = 0; end = 0 }
 
--- kind 1 has neither sensors nor rows
-abbrev pub NotMeasured : ℕ → MeasuredRead → Type 0
-NotMeasured kind (MeasuredIs m) = kind ≡ 1 → (m .input ≡ noSensor) × (m .output ≡ noSensor) × (m .rows ≡ noPart)
-NotMeasured kind (MeasuredRefused x) = Unit
+-- kind 2 has no right sensor
+abbrev pub NoRightOutput : ℕ → OutputsRead → Type 0
+NoRightOutput kind (OutputsAre o) = kind ≡ 2 → o .right ≡ noSensor
+NoRightOutput kind (OutputsRefused x) = Unit
+
+abbrev pub NoRightMeasured : ℕ → MeasuredRead → Type 0
+NoRightMeasured kind (MeasuredIs m) = kind ≡ 2 → m .right ≡ noSensor
+NoRightMeasured kind (MeasuredRefused x) = Unit
+
+-- what a kind does not have: kind 1 neither sensors nor rows, kind 2 no right sensor
+pub record Absent (kind : ℕ) (input output right : Sensor) (rows : DataPart) : Type 0 where
+  pub not-measured : kind ≡ 1 → (input ≡ noSensor) × (output ≡ noSensor) × (right ≡ noSensor) × (rows ≡ noPart)
+  pub no-right : kind ≡ 2 → right ≡ noSensor
+
+abbrev pub AbsentThere : ℕ → MeasuredRead → Type 0
+AbsentThere kind (MeasuredIs m) = Absent kind (m .input) (m .output) (m .right) (m .rows)
+AbsentThere kind (MeasuredRefused x) = Unit
 
 abbrev pub componentFrom : Axle → Grid → Measured → Component
 componentFrom axle grid m = record {
@@ -105,13 +134,14 @@ componentFrom axle grid m = record {
   grid = grid;
   input = m .input;
   output = m .output;
+  right = m .right;
   rows = m .rows;
 }
 
--- the numbers that the code's component holds, in document 01's terms: places past an axis's count mean nothing, nor do the sensors and rows of kind 1
+-- the numbers that the code's component holds, in document 01's terms: places past an axis's count mean nothing, nor do the sensors and rows that the kind does not have
 abbrev pub componentOf : List ℕ → Component → ComponentSays
 componentOf bytes c = record {
-  kind = kindOf (c .kind) (c .input) (c .output) (rowsOf bytes (c .rows));
+  kind = kindOf (c .kind) (c .input) (outputsOf (c .kind) (c .output) (c .right)) (rowsOf bytes (c .rows));
   line = c .line;
   ratio = c .ratio;
   speeds = speedsOf (c .grid .speeds);
@@ -135,17 +165,18 @@ pub record NoNumbers (c : Component) : Type 0 where
   pub torques : c .grid .torques .count ≡ 0
   pub input : c .input ≡ noSensor
   pub output : c .output ≡ noSensor
+  pub right : c .right ≡ noSensor
   pub rows : c .rows ≡ noPart
 
--- what stands where nothing is stated: in a refused answer, and in place of the sensors and rows of kind 1
+-- what stands where nothing is stated: in a refused answer, and in place of what the kind does not have
 abbrev pub Unstated : Answer → Component → Type 0
-Unstated Accepted c = c .kind ≡ 1 → (c .input ≡ noSensor) × (c .output ≡ noSensor) × (c .rows ≡ noPart)
+Unstated Accepted c = Absent (c .kind) (c .input) (c .output) (c .right) (c .rows)
 Unstated (Refused x) c = NoNumbers c
 
 -- what `read` promises for every byte sequence: which refusal with its number and place, or which numbers
 pub record Reads (bytes : List ℕ) (r : Reading) : Type 0 where
   pub outcome : readingOf bytes r ≡ component bytes
-  -- the kind's number, of which `readingOf` asks only whether it is 1
+  -- the kind's number, of which `readingOf` asks only whether it is 1 or 2
   pub kind : (says : ComponentSays) → component bytes ≡ accepted says → r .component .kind ≡ kindNumber (says .kind)
   pub counts : CountsWithin (r .component .grid)
   pub rows : PartWithin (length bytes) (r .component .rows)

@@ -1,6 +1,6 @@
--- Document 01, "Component data" and "Refusals": the fields of component data in their order, and 12 where more follows.
-use Prim.Native.Nat.{ℕ, _*_}
-use mathlib.Core.List.{List}
+-- Document 01, "Component data" and "Refusals", and document 02, C-11: the fields of component data in their order, and 12 where more follows.
+use Prim.Native.Nat.{ℕ, _+_, _*_}
+use mathlib.Core.List.{List, [], _∷_}
 use lib.Dec.{leb, eqb}
 use lib.ListN.{length}
 use Rattle.refusal.specs.Outcome.{Outcome, accepted, _>>=_, require, if_then_else_}
@@ -9,7 +9,7 @@ use Rattle.fields.specs.Field.{field, exactly, numbers, number, axis}
 use Rattle.fields.specs.Sensor.{sensor}
 use Rattle.sensor.specs.declared.Sensor.{Sensor}
 
--- the rows of tag 8: the bytes of its body, and the place of the first
+-- the rows of tag 8 or 10: the bytes of its body, and the place of the first
 pub record Rows : Type 0 where
   pub start : ℕ
   pub bytes : List ℕ
@@ -17,12 +17,31 @@ pub record Rows : Type 0 where
 -- the kind, with the fields that only measured data has
 pub data Kind : Type 0 where
   standard : Kind
-  measured : (input output : Sensor) (rows : Rows) → Kind
+  measured : (input : Sensor) (outputs : List Sensor) (rows : Rows) → Kind
 
--- the number that tag 1 has for it
+-- how many sensors there are: that of the input, and those of the outputs
+abbrev pub sensorCount : List Sensor → ℕ
+sensorCount outputs = 1 + length outputs
+
+-- the number that tag 1 has for it: measured data has as many sensors
 abbrev pub kindNumber : Kind → ℕ
 kindNumber standard = 1
-kindNumber (measured input output rows) = 2
+kindNumber (measured input outputs rows) = sensorCount outputs
+
+-- the tags of a measured kind: its output sensors, one or left and right, and its rows
+unfoldable pub outputTags : ℕ → List ℕ
+outputTags kind = 7 ∷ (if eqb kind 2 then [] else 9 ∷ [])
+
+-- the input's sensor is first
+abbrev pub sensorTags : ℕ → List ℕ
+sensorTags kind = 6 ∷ outputTags kind
+
+unfoldable pub rowsTag : ℕ → ℕ
+rowsTag kind = if eqb kind 2 then 8 else 10
+
+-- how many bytes a row has: four for the torque of each sensor
+abbrev pub rowLength : (sensors : ℕ) → ℕ
+rowLength sensors = 4 * sensors
 
 -- what component data says
 pub record Component : Type 0 where
@@ -45,7 +64,7 @@ pub record Axle : Type 0 where
 
 unfoldable pub axleFields : List ℕ → ℕ → Outcome (Run Axle)
 axleFields bytes at = do
-  kind ← field bytes at 1 (exactly 1) (number (1 to 2))
+  kind ← field bytes at 1 (exactly 1) (number (1 to 3))
   line ← field bytes (kind .next) 2 (exactly 1) (number (1 to 5))
   ratio ← field bytes (line .next) 3 (exactly 2) (number (1000 to 20000))
   accepted (record {
@@ -68,23 +87,31 @@ axesFields bytes at = do
     next = torques .next;
   })
 
--- the body of tag 8, which is looked at only when a map is built
+-- sensors, one after another, each with its tag
+unfoldable pub sensorFields : List ℕ → ℕ → (tags : List ℕ) → Outcome (Run (List Sensor))
+sensorFields bytes at [] = accepted (record { value = []; next = at })
+sensorFields bytes at (tag ∷ tags) = do
+  first ← field bytes at tag (exactly 18) sensor
+  others ← sensorFields bytes (first .next) tags
+  accepted (record { value = first .value ∷ others .value; next = others .next })
+
+-- the body of tag 8 or 10, which is looked at only when a map is built
 abbrev pub rows : List ℕ → ℕ → Outcome Rows
 rows body place = accepted (record { start = place; bytes = body })
 
--- tags 6 to 8, for so many points; tag 8 has 8 bytes a point
-unfoldable pub measuredFields : List ℕ → ℕ → ℕ → Outcome (Run Kind)
-measuredFields bytes at points = do
+-- from tag 6 on, for so many points: the input's sensor, the outputs' sensors, and a row for each point
+unfoldable pub measuredFields : List ℕ → ℕ → ℕ → ℕ → Outcome (Run Kind)
+measuredFields bytes at kind points = do
   input ← field bytes at 6 (exactly 18) sensor
-  output ← field bytes (input .next) 7 (exactly 18) sensor
-  body ← field bytes (output .next) 8 (exactly (8 * points)) rows
-  accepted (record { value = measured (input .value) (output .value) (body .value); next = body .next })
+  outputs ← sensorFields bytes (input .next) (outputTags kind)
+  body ← field bytes (outputs .next) (rowsTag kind) (exactly (rowLength kind * points)) rows
+  accepted (record { value = measured (input .value) (outputs .value) (body .value); next = body .next })
 
 -- what follows the axes
 unfoldable pub kindFields : List ℕ → ℕ → ℕ → ℕ → Outcome (Run Kind)
 kindFields bytes at kind points =
     if eqb kind 1 then accepted (record { value = standard; next = at }) else
-    measuredFields bytes at points
+    measuredFields bytes at kind points
 
 -- component data: the fields in their order, then nothing more
 unfoldable pub component : List ℕ → Outcome Component

@@ -13,10 +13,10 @@ use refusal::Answer;
 use refusal::Refusal;
 use sensor::Sensor;
 ghost use mathlib.Core.Path.{_≡_};
-ghost use Prim.Native.Nat.{_≤_};
+ghost use Prim.Native.Nat.{_*_, _≤_};
 ghost use lib.ListN.{length};
-ghost use Rattle.component.specs.Component.{axleFields, axesFields, measuredFields, kindFields};
-ghost use Rattle.component.specs.Answers.{axleReadOf, axesReadOf, CountsWithin, measuredReadOf, kindReadOf, RowsWithin, NotMeasured, noSensor, noPart, componentFrom, NoNumbers, Reads};
+ghost use Rattle.component.specs.Component.{outputTags, rowsTag, rowLength, axleFields, axesFields, sensorFields, measuredFields, kindFields};
+ghost use Rattle.component.specs.Answers.{axleReadOf, axesReadOf, CountsWithin, outputsReadOf, NoRightOutput, measuredReadOf, NoRightMeasured, kindReadOf, RowsWithin, AbsentThere, noSensor, noPart, componentFrom, NoNumbers, Reads};
 
 // A part of the data, from start up to end.
 pub struct DataPart {
@@ -24,19 +24,21 @@ pub struct DataPart {
     pub end: usize,
 }
 
-// The numbers that component data says. The kind says which fields there are: of kind 1 the sensors and the rows mean nothing.
+// The numbers that component data says. The kind says which fields there are: of kind 1 the sensors and the rows mean nothing, of kind 2 the right sensor.
 pub struct Component {
-    // 1 standard, 2 measured
+    // 1 standard, 2 measured, 3 measured with an output sensor on each half shaft
     pub kind: u16,
     // the axle line, 1 to 5: SR, SRT, SP, HR, HRT
     pub line: u16,
     // thousandths
     pub ratio: u16,
     pub grid: Grid,
-    // the sensors of kind 2
+    // the sensors of kinds 2 and 3; of kind 3 output is the left one
     pub input: Sensor,
     pub output: Sensor,
-    // the part of the data that the rows of kind 2 occupy
+    // the right output sensor of kind 3
+    pub right: Sensor,
+    // the part of the data that the rows of kinds 2 and 3 occupy
     pub rows: DataPart,
 }
 
@@ -48,7 +50,7 @@ pub struct Reading {
 
 const KINDS: Range = Range {
     lowest: 1,
-    highest: 2,
+    highest: 3,
 };
 
 const LINES: Range = Range {
@@ -153,54 +155,6 @@ fn read_axes(data: &[u8], start: Cursor) -> AxesRead
     }
 }
 
-// Tags 6 to 8, and the cursor past them.
-struct Measured {
-    pub input: Sensor,
-    pub output: Sensor,
-    pub rows: DataPart,
-    pub next: Cursor,
-}
-
-enum MeasuredRead {
-    Read(Measured),
-    Refused(Refusal),
-}
-
-fn read_measured(data: &[u8], start: Cursor, points: usize) -> MeasuredRead
-    requires { ⌜ points ≤ 2048 ⌝ }
-    ensures { λ r. ⌜ measuredReadOf (now («data» .entry)) r ≡ measuredFields (now («data» .entry)) (start .at) points ⌝ }
-    ensures { λ r. ⌜ RowsWithin (length (now («data» .entry))) r ⌝ }
-{
-    let input = match start.sensor(data, 6) {
-        SensorFieldRead::Refused(x) => return MeasuredRead::Refused(x),
-        SensorFieldRead::Read(field) => field,
-    };
-    let output = match input.next.sensor(data, 7) {
-        SensorFieldRead::Refused(x) => return MeasuredRead::Refused(x),
-        SensorFieldRead::Read(field) => field,
-    };
-    match output.next.field(data, 8, Allowed::Exactly(8 * points)) {
-        FieldRead::Refused(x) => MeasuredRead::Refused(x),
-        FieldRead::Field {
-            kind: _,
-            start,
-            next,
-        } => {
-            let input_sensor = input.sensor;
-            let output_sensor = output.sensor;
-            MeasuredRead::Read(Measured {
-                input: input_sensor,
-                output: output_sensor,
-                rows: DataPart {
-                    start,
-                    end: next.at,
-                },
-                next,
-            })
-        }
-    }
-}
-
 // What stands in place of a sensor where there is none.
 fn no_sensor() -> Sensor
     ensures { λ r. ⌜ r ≡ noSensor ⌝ }
@@ -218,15 +172,135 @@ fn no_sensor() -> Sensor
     }
 }
 
-// What stands in place of tags 6 to 8 where there are none.
+// The output sensors, and the cursor past them.
+struct Outputs {
+    pub output: Sensor,
+    pub right: Sensor,
+    pub next: Cursor,
+}
+
+enum OutputsRead {
+    Read(Outputs),
+    Refused(Refusal),
+}
+
+// Tag 7, and where the kind has one on each half shaft tag 9.
+fn read_outputs(data: &[u8], start: Cursor, kind: u16) -> OutputsRead
+    ensures { λ r. ⌜
+        (outputsReadOf kind r ≡ sensorFields (now («data» .entry)) (start .at) (outputTags kind))
+        × NoRightOutput kind r ⌝ }
+{
+    let output = match start.sensor(data, 7) {
+        SensorFieldRead::Refused(x) => return OutputsRead::Refused(x),
+        SensorFieldRead::Read(field) => field,
+    };
+    let output_sensor = output.sensor;
+    let after_output = output.next;
+    if kind == 2 {
+        let right_sensor = no_sensor();
+        return OutputsRead::Read(Outputs {
+            output: output_sensor,
+            right: right_sensor,
+            next: after_output,
+        });
+    }
+    match after_output.sensor(data, 9) {
+        SensorFieldRead::Refused(x) => OutputsRead::Refused(x),
+        SensorFieldRead::Read(field) => {
+            let right_sensor = field.sensor;
+            let after_right = field.next;
+            OutputsRead::Read(Outputs {
+                output: output_sensor,
+                right: right_sensor,
+                next: after_right,
+            })
+        }
+    }
+}
+
+// The tag of the rows.
+fn rows_tag(kind: u16) -> u8
+    ensures { λ r. ⌜ r ≡ rowsTag kind ⌝ }
+{
+    if kind == 2 { 8 } else { 10 }
+}
+
+// How many bytes the rows have: four for each sensor, of which there are as many as the kind's number, at each point.
+fn rows_length(kind: u16, points: usize) -> usize
+    requires { ⌜ points ≤ 2048 ⌝ }
+    ensures { λ r. ⌜ r ≡ rowLength kind * points ⌝ }
+{
+    4 * (kind as usize) * points
+}
+
+// From tag 6 on, and the cursor past the rows.
+struct Measured {
+    pub input: Sensor,
+    pub output: Sensor,
+    pub right: Sensor,
+    pub rows: DataPart,
+    pub next: Cursor,
+}
+
+enum MeasuredRead {
+    Read(Measured),
+    Refused(Refusal),
+}
+
+fn read_measured(data: &[u8], start: Cursor, kind: u16, points: usize) -> MeasuredRead
+    requires { ⌜ points ≤ 2048 ⌝ }
+    ensures { λ r. ⌜
+        measuredReadOf (now («data» .entry)) kind r ≡ measuredFields (now («data» .entry)) (start .at) kind points ⌝ }
+    ensures { λ r. ⌜ RowsWithin (length (now («data» .entry))) r ⌝ }
+    ensures { λ r. ⌜ NoRightMeasured kind r ⌝ }
+{
+    let input = match start.sensor(data, 6) {
+        SensorFieldRead::Refused(x) => return MeasuredRead::Refused(x),
+        SensorFieldRead::Read(field) => field,
+    };
+    let outputs = match read_outputs(data, input.next, kind) {
+        OutputsRead::Refused(x) => return MeasuredRead::Refused(x),
+        OutputsRead::Read(outputs) => outputs,
+    };
+    let length = rows_length(kind, points);
+    match outputs
+        .next
+        .field(data, rows_tag(kind), Allowed::Exactly(length)) {
+        FieldRead::Refused(x) => MeasuredRead::Refused(x),
+        FieldRead::Field {
+            kind: _,
+            start,
+            next,
+        } => {
+            let input_sensor = input.sensor;
+            let output_sensor = outputs.output;
+            let right_sensor = outputs.right;
+            MeasuredRead::Read(Measured {
+                input: input_sensor,
+                output: output_sensor,
+                right: right_sensor,
+                rows: DataPart {
+                    start,
+                    end: next.at,
+                },
+                next,
+            })
+        }
+    }
+}
+
+// What stands in place of sensors and rows where there are none.
 fn not_measured(next: Cursor) -> Measured
-    ensures { λ r. ⌜ (r .input ≡ noSensor) × (r .output ≡ noSensor) × (r .rows ≡ noPart) × (r .next ≡ next) ⌝ }
+    ensures { λ r. ⌜
+        (r .input ≡ noSensor) × (r .output ≡ noSensor) × (r .right ≡ noSensor) × (r .rows ≡ noPart) × (r .next ≡ next) ⌝ }
 {
     let input = no_sensor();
     let output = no_sensor();
+    let right = no_sensor();
     Measured {
         input,
         output,
+        right,
         rows: DataPart { start: 0, end: 0 },
         next,
     }
@@ -238,12 +312,12 @@ fn read_kind(data: &[u8], start: Cursor, kind: u16, points: usize) -> MeasuredRe
     ensures { λ r. ⌜
         (kindReadOf (now («data» .entry)) kind r ≡ kindFields (now («data» .entry)) (start .at) kind points)
         × RowsWithin (length (now («data» .entry))) r
-        × NotMeasured kind r ⌝ }
+        × AbsentThere kind r ⌝ }
 {
     if kind == 1 {
         return MeasuredRead::Read(not_measured(start));
     }
-    read_measured(data, start, points)
+    read_measured(data, start, kind, points)
 }
 
 fn refused(x: Refusal) -> Reading
@@ -252,6 +326,7 @@ fn refused(x: Refusal) -> Reading
     let grid = grid::empty_grid();
     let input = no_sensor();
     let output = no_sensor();
+    let right = no_sensor();
     let component = Component {
         kind: 0,
         line: 0,
@@ -259,6 +334,7 @@ fn refused(x: Refusal) -> Reading
         grid,
         input,
         output,
+        right,
         rows: DataPart { start: 0, end: 0 },
     };
     Reading {
@@ -272,6 +348,7 @@ fn accepted(axle: Axle, grid: Grid, measured: Measured) -> Reading
 {
     let input = measured.input;
     let output = measured.output;
+    let right = measured.right;
     let rows = measured.rows;
     let component = Component {
         kind: axle.kind,
@@ -280,6 +357,7 @@ fn accepted(axle: Axle, grid: Grid, measured: Measured) -> Reading
         grid,
         input,
         output,
+        right,
         rows,
     };
     Reading {

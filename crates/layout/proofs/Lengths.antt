@@ -2,7 +2,8 @@
 use Prim.Native.Nat.{ℕ, _+_, _-_, _*_, _≤_, _<_}
 use mathlib.Core.Path.{_≡_, sym, ap, _∙_}
 use mathlib.Core.Bool.{Bool, true}
-use mathlib.Core.List.{List, _++_}
+use mathlib.Core.List.{List, [], _∷_, _++_}
+use mathlib.Core.Logic.{inl, inr}
 use native.Mathlib.Omega.{arith}
 use native.Mathlib.Decide.{decLe}
 use native.Mathlib.Nat.{mul-le-mul}
@@ -13,34 +14,31 @@ use Rattle.refusal.specs.Outcome.{Told}
 use Rattle.refusal.proofs.Steps.{never}
 use Rattle.fields.specs.Bytes.{between}
 use Rattle.fields.specs.Field.{exactly, numbers}
-use Rattle.component.specs.Component.{Component, Kind, standard, measured, component}
+use Rattle.component.specs.Component.{Component, Kind, standard, measured, sensorCount, sensorTags, rowLength, component}
 use Rattle.sensor.specs.declared.Sensor.{Sensor}
 use Rattle.fields.proofs.Heads.{numbers-bounds}
 use Rattle.layout.specs.Layout.{layout}
-use Rattle.layout.specs.Rules.{AreBytes, Rules}
+use Rattle.layout.specs.Rules.{AreBytes, sensorsStart, MeasuredRules, Rules}
 use Rattle.layout.specs.Faults.{Stands, HeadFault, head-incomplete, other-tag, none-left, other-length, body-incomplete, FieldFault, in-head, in-body}
-use Rattle.layout.specs.Acceptance.{AxleStands, SpeedsStand, SensorStands, AxesStand, Fault, in-kind, in-line, in-ratio, in-speeds, in-torques, in-input, in-output, in-rows, after-torques, after-rows}
+use Rattle.layout.specs.Acceptance.{AxleStands, SpeedsStand, SensorStands, SensorsStand, AxesStand, SensorsFault, rowsEnd, Fault, in-kind, in-line, in-ratio, in-speeds, in-torques, in-sensors, in-rows, after-torques, after-rows}
 use Rattle.layout.specs.Length.{longest, NoneLonger, BeginningDecides, RefusedWithMore, NotCutShort}
 use Rattle.layout.proofs.OneField.{wrong, right}
-use Rattle.layout.proofs.Runs.{fault-refused}
+use Rattle.layout.proofs.Runs.{tags-count, fault-refused}
 use Rattle.layout.proofs.Theorems.{length-standard, length-measured, refused-with, component-decided, sound}
 
 -- ---- the longest
 
-few-points : (m n : ℕ) → m ≤ 32 → n ≤ 64 → m * n ≤ 2048
-few-points m n h k = mul-le-mul h k
+rows-end-longest : (kind m n : ℕ) → kind ≤ 3 → m ≤ 32 → n ≤ 64 → rowsEnd kind m n ≤ longest
+rows-end-longest kind m n h k l = omega (arith, mul-le-mul h (mul-le-mul k l))
 
 kind-longest : (kind : Kind) (line ratio : ℕ) (speeds torques : List ℕ) → Rules (record { kind = kind; line = line; ratio = ratio; speeds = speeds; torques = torques })
     → length (layout (record { kind = kind; line = line; ratio = ratio; speeds = speeds; torques = torques })) ≤ longest
 kind-longest standard line ratio speeds torques r = omega (arith, length-standard line ratio speeds torques, r .speeds .at-most, r .torques .at-most)
-kind-longest (measured input output rows) line ratio speeds torques r =
-    omega (
-      arith,
-      length-measured line ratio speeds torques input output rows (r .kind .2),
-      r .speeds .at-most,
-      r .torques .at-most,
-      few-points (length speeds) (length torques) (r .speeds .at-most) (r .torques .at-most),
-    )
+kind-longest (measured input outputs rows) line ratio speeds torques r =
+    let k : MeasuredRules (length speeds) (length torques) input outputs rows = r .kind in
+    let few : sensorCount outputs ≤ 3 = omega (arith, k .most-outputs) in
+    rw (length-measured line ratio speeds torques input outputs rows k)
+    (rows-end-longest (sensorCount outputs) (length speeds) (length torques) few (r .speeds .at-most) (r .torques .at-most))
 
 laid-longest : (c : Component) → Rules c → length (layout c) ≤ longest
 laid-longest c r = kind-longest (c .kind) (c .line) (c .ratio) (c .speeds) (c .torques) r
@@ -74,6 +72,9 @@ few-speeds s = omega (arith, s .speed-count, s .speeds-stand .rules .at-most)
 
 few-torques : {bytes : List ℕ} {kind m n : ℕ} → AxesStand bytes kind m n → n ≤ 64
 few-torques s = omega (arith, s .torque-count, s .torques-stand .rules .at-most)
+
+measured-longest : {bytes : List ℕ} {kind m n : ℕ} → AxesStand bytes kind m n → rowsEnd kind m n ≤ longest
+measured-longest {bytes} {kind} {m} {n} s = rows-end-longest kind m n (s .axle-stands .kind-range .1) (few-speeds s) (few-torques s)
 
 -- ---- what stands in bytes stands in them with more after them, and so does what is wrong, but for what is wrong with the end of the bytes
 
@@ -121,6 +122,10 @@ module _ (bytes more : List ℕ) where
   sensor-stands : (at tag : ℕ) (sensor : Sensor) → SensorStands bytes at tag sensor → SensorStands (bytes ++ more) at tag sensor
   sensor-stands at tag sensor s = record { there = stands _ _ _ _ (s .there); rules = s .rules }
 
+  sensors-stand : (at : ℕ) (tags : List ℕ) (sensors : List Sensor) → SensorsStand bytes at tags sensors → SensorsStand (bytes ++ more) at tags sensors
+  sensors-stand at [] [] h = tt
+  sensors-stand at (tag ∷ tags) (s ∷ sensors) h = (sensor-stands at tag s (h .0), sensors-stand (at + 21) tags sensors (h .1))
+
   -- a field that is due at a place ends within the bytes, whichever of its lengths it has
   record Room (at : ℕ) (allowed : ℕ → Bool) : Type 0 where
     head : at + 3 ≤ length bytes
@@ -148,6 +153,10 @@ module _ (bytes more : List ℕ) where
     axis-room : (at most : ℕ) → at + 4 + 2 * most ≤ longest → Room at (numbers 2 most)
     axis-room at most h = record { head = omega arith; body = λ len e. omega (arith, numbers-bounds 2 most len e .2) }
 
+    sensors-fault : (at : ℕ) (tags : List ℕ) (t : Told) → at + 21 * length tags ≤ longest → SensorsFault bytes at tags t → SensorsFault (bytes ++ more) at tags t
+    sensors-fault at (tag ∷ tags) t h (inl f) = inl (field-fault _ _ _ _ t (exact-room at 18 (omega arith)) f)
+    sensors-fault at (tag ∷ tags) t h (inr f) = inr (f .0, sensor-stands at tag (f .0) (f .1), sensors-fault (at + 21) tags t (omega arith) (f .2))
+
     fault : (t : Told) → Fault bytes t → Fault (bytes ++ more) t
     fault t (in-kind f) = in-kind (field-fault _ _ _ _ t (exact-room 0 1 (omega arith)) f)
     fault t (in-line kind k r f) = in-line kind (stands _ _ _ _ k) r (field-fault _ _ _ _ t (exact-room 4 1 (omega arith)) f)
@@ -157,15 +166,14 @@ module _ (bytes more : List ℕ) where
     fault t (in-torques kind line ratio speeds a s f) =
         in-torques kind line ratio speeds (axle-stands kind line ratio a) (speeds-stand speeds s)
         (field-fault _ _ _ _ t (axis-room (16 + 2 * length speeds) 64 (omega (arith, s .rules .at-most))) f)
-    fault t (in-input m n s f) = in-input m n (axes-stand 2 m n s) (field-fault _ _ _ _ t (exact-room _ 18 (omega (arith, few-speeds s, few-torques s))) f)
-    fault t (in-output m n input s i f) =
-        in-output m n input (axes-stand 2 m n s) (sensor-stands _ _ input i) (field-fault _ _ _ _ t (exact-room _ 18 (omega (arith, few-speeds s, few-torques s))) f)
-    fault t (in-rows m n input output s i o f) =
-        in-rows m n input output (axes-stand 2 m n s) (sensor-stands _ _ input i) (sensor-stands _ _ output o)
-        (field-fault _ _ _ _ t (exact-room _ (8 * (m * n)) (omega (arith, few-speeds s, few-torques s, few-points m n (few-speeds s) (few-torques s)))) f)
+    fault t (in-sensors kind m n s h f) =
+        let sensors-within : sensorsStart m n + 21 * length (sensorTags kind) ≤ longest = omega (arith, tags-count kind h (s .axle-stands .kind-range .1), measured-longest s) in
+        in-sensors kind m n (axes-stand kind m n s) h (sensors-fault (sensorsStart m n) (sensorTags kind) t sensors-within f)
+    fault t (in-rows kind m n sensors s h i f) =
+        in-rows kind m n sensors (axes-stand kind m n s) h (sensors-stand (sensorsStart m n) (sensorTags kind) sensors i) (field-fault _ _ _ _ t (exact-room _ (rowLength kind * (m * n)) (measured-longest s)) f)
     fault t (after-torques m n s l e) = after-torques m n (axes-stand 1 m n s) (omega (arith, length-append bytes more)) e
-    fault t (after-rows m n input output rows s i o r l e) =
-        after-rows m n input output rows (axes-stand 2 m n s) (sensor-stands _ _ input i) (sensor-stands _ _ output o) (stands _ _ _ _ r) (omega (arith, length-append bytes more)) e
+    fault t (after-rows kind m n sensors rows s h i r l e) =
+        after-rows kind m n sensors rows (axes-stand kind m n s) h (sensors-stand (sensorsStart m n) (sensorTags kind) sensors i) (stands _ _ _ _ r) (omega (arith, length-append bytes more)) e
 
 -- the first bytes decide: what is wrong with them is wrong with all, and they are too long to be accepted
 pub beginning-decides : BeginningDecides

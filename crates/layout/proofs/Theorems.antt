@@ -1,8 +1,9 @@
 -- Component data is accepted exactly when no refusal applies: the four statements of specs/Acceptance. Assumes nothing.
-use Prim.Native.Nat.{ℕ, _+_, _*_, _<_}
+use Prim.Native.Nat.{ℕ, _+_, _*_, _≤_, _<_}
 use mathlib.Core.Path.{_≡_, refl, sym, ap, _∙_}
 use mathlib.Core.Bool.{Bool}
-use mathlib.Core.List.{List, [], _++_, append-nil}
+use mathlib.Core.List.{List, [], _∷_, _++_, append-nil}
+use mathlib.Core.Logic.{inl, inr}
 use native.Mathlib.Omega.{arith}
 use native.Mathlib.Decide.{decLe, ℕ-discrete}
 use borrow.Author.Tests.{eqb-true, le-leb, lt-leb}
@@ -11,32 +12,38 @@ use lib.ListN.{length, drop, length-append, drop-of-length-le}
 use Rattle.refusal.specs.Outcome.{refusal, accepted, refuse, require, _>>=_}
 use Rattle.refusal.proofs.Steps.{never, same-value, same-refusal}
 use Rattle.fields.specs.Field.{exactly}
-use Rattle.component.specs.Component.{Component, Kind, standard, measured, kindNumber, Rows, kindFields, component}
+use Rattle.component.specs.Component.{Component, Kind, standard, measured, sensorCount, kindNumber, Rows, sensorTags, rowsTag, rowLength, kindFields, component}
 use Rattle.sensor.specs.declared.Sensor.{Sensor}
 use Rattle.layout.specs.Layout.{layout, measuredBytes}
-use Rattle.layout.specs.Rules.{AreBytes, KindRules, Rules}
+use Rattle.layout.specs.Rules.{AreBytes, sensorsStart, rowsHead, MeasuredRules, KindRules, Rules}
 use Rattle.layout.specs.Faults.{Stands}
-use Rattle.layout.specs.Acceptance.{AxesStand, SensorStands, Fault, in-input, in-output, in-rows, after-torques, after-rows, Sound, Complete, Refused, RefusedOnlyThen}
+use Rattle.layout.specs.Acceptance.{SensorStands, SensorsStand, AxesStand, SensorsFault, rowsEnd, Fault, in-sensors, in-rows, after-torques, after-rows, Sound, Complete, Refused, RefusedOnlyThen}
 use Rattle.layout.proofs.FieldBytes.{between-bytes}
 use Rattle.layout.proofs.OneField.{Decided, wrong, right, body-there, field-decided}
 use Rattle.layout.proofs.BodyChecks.{sensor-checked, rows-checked}
-use Rattle.layout.proofs.Runs.{fault-refused, measured-read, after-axes, axes-decided}
-use Rattle.layout.proofs.LaidOut.{axes-laid, after-five, five-fields, input-laid, output-laid, rows-laid, three-fields, laid-more, length-five, three-more, length-three}
+use Rattle.layout.proofs.Runs.{tags-count, measured-read, after-axes, fault-refused, axes-decided}
+use Rattle.layout.proofs.LaidOut.{axes-laid, after-five, five-fields, sensors-count, sensors-rules, length-measured-bytes, measured-laid, rows-laid, measured-fields, laid-more, length-five}
 
 -- ---- numbers that keep every rule
 
 -- how long their fields are
 pub length-standard : (line ratio : ℕ) (speeds torques : List ℕ)
-    → length (layout (record { kind = standard; line = line; ratio = ratio; speeds = speeds; torques = torques })) ≡ 19 + 2 * length speeds + 2 * length torques
+    → length (layout (record { kind = standard; line = line; ratio = ratio; speeds = speeds; torques = torques })) ≡ sensorsStart (length speeds) (length torques)
 unfolding layout measuredBytes
 length-standard line ratio speeds torques = omega (arith, length-five 1 line ratio speeds torques [])
 
-pub length-measured : (line ratio : ℕ) (speeds torques : List ℕ) (input output : Sensor) (rows : Rows) → length (rows .bytes) ≡ 8 * (length speeds * length torques)
-    → length (layout (record { kind = measured input output rows; line = line; ratio = ratio; speeds = speeds; torques = torques }))
-    ≡ 64 + 2 * length speeds + 2 * length torques + 8 * (length speeds * length torques)
-unfolding layout measuredBytes
-length-measured line ratio speeds torques input output rows long =
-    omega (arith, length-five 2 line ratio speeds torques (measuredBytes (measured input output rows)), length-three input output (rows .bytes), long)
+pub length-measured : (line ratio : ℕ) (speeds torques : List ℕ) (input : Sensor) (outputs : List Sensor) (rows : Rows) → MeasuredRules (length speeds) (length torques) input outputs rows
+    → length (layout (record { kind = measured input outputs rows; line = line; ratio = ratio; speeds = speeds; torques = torques }))
+    ≡ rowsEnd (sensorCount outputs) (length speeds) (length torques)
+unfolding layout
+length-measured line ratio speeds torques input outputs rows r =
+    let kind = sensorCount outputs in
+    omega (
+      arith,
+      length-five kind line ratio speeds torques (measuredBytes (measured input outputs rows)),
+      length-measured-bytes input outputs rows kind refl (omega arith) (omega arith),
+      r .long,
+    )
 
 -- what is laid out, with more bytes after it: all is read, and then nothing may be left
 laid-then : (kind : Kind) (line ratio : ℕ) (speeds torques more : List ℕ)
@@ -47,18 +54,22 @@ laid-then standard line ratio speeds torques more r =
     let c : Component = record { kind = standard; line = line; ratio = ratio; speeds = speeds; torques = torques } in
     let s = axes-laid (layout c ++ more) more 1 line ratio speeds torques (laid-more 1 line ratio speeds torques [] more) (omega arith) standard r in
     after-axes (layout c ++ more) 1 (length speeds) (length torques) s ∙ rw (length-standard line ratio speeds torques)
-laid-then (measured input output rows) line ratio speeds torques more r =
-    let c : Component = record { kind = measured input output rows; line = line; ratio = ratio; speeds = speeds; torques = torques } in
+laid-then (measured input outputs rows) line ratio speeds torques more r =
+    let c : Component = record { kind = measured input outputs rows; line = line; ratio = ratio; speeds = speeds; torques = torques } in
+    let kind = sensorCount outputs in
     let bytes = layout c ++ more in
     let m = length speeds in
     let n = length torques in
-    let k = r .kind in
-    let five = laid-more 2 line ratio speeds torques (measuredBytes (c .kind)) more in
-    let s = axes-laid bytes (measuredBytes (c .kind) ++ more) 2 line ratio speeds torques five (omega arith) (c .kind) r in
-    let laid = after-five bytes (measuredBytes (c .kind) ++ more) 2 line ratio speeds torques five ∙ three-more input output (rows .bytes) more in
-    let start : rows .start ≡ 64 + 2 * m + 2 * n = k .4 in
-    after-axes bytes 2 m n s
-    ∙ rw (measured-read bytes m n input output (rows .bytes) (input-laid bytes m n input output (rows .bytes) more laid (k .0)) (output-laid bytes m n input output (rows .bytes) more laid (k .1)) (rows-laid bytes m n input output (rows .bytes) more laid (k .2)), length-measured line ratio speeds torques input output rows (k .2), ← start)
+    let k : MeasuredRules m n input outputs rows = r .kind in
+    let low : 2 ≤ kind = omega (arith, k .some-output) in
+    let high : kind ≤ 3 = omega (arith, k .most-outputs) in
+    let five = laid-more kind line ratio speeds torques (measuredBytes (c .kind)) more in
+    let s = axes-laid bytes (measuredBytes (c .kind) ++ more) kind line ratio speeds torques five (omega arith) (c .kind) r in
+    let laid = after-five bytes (measuredBytes (c .kind) ++ more) kind line ratio speeds torques five in
+    let start : rows .start ≡ rowsHead kind m n + 3 = k .start in
+    let stand = measured-laid input outputs rows kind refl low high bytes m n more laid (k .sensors) in
+    let rows-stand = rows-laid input outputs rows kind refl low high bytes m n more laid (k .long) in
+    rw (after-axes bytes kind m n s, measured-read bytes kind m n low high input outputs stand (rows .bytes) rows-stand, length-measured line ratio speeds torques input outputs rows k, ← start)
 
 -- what is laid out is read as those numbers
 pub complete : Complete
@@ -91,15 +102,15 @@ module _ (bytes : List ℕ) where
       kind = rw (s .speed-count, s .torque-count) r;
     }
 
-    laid-again : kindNumber k ≡ kind → measuredBytes k ≡ drop (19 + 2 * m + 2 * n) bytes
+    laid-again : kindNumber k ≡ kind → measuredBytes k ≡ drop (sensorsStart m n) bytes
         → layout (record { kind = k; line = s .line; ratio = s .ratio; speeds = s .speeds; torques = s .torques }) ≡ bytes
     unfolding layout
     laid-again e d = rw (e, d) (five-fields bytes kind m n s)
 
   standard-decided : (m n : ℕ) → AxesStand bytes 1 m n → Decided (Fault bytes) (λ (c : Component). Rules c × (layout c ≡ bytes))
   unfolding measuredBytes
-  standard-decided m n s = elim (decLe (length bytes) (19 + 2 * m + 2 * n)) [
-    | no more ↦ wrong (refusal 12 (19 + 2 * m + 2 * n)) (after-torques m n s (omega arith) refl)
+  standard-decided m n s = elim (decLe (length bytes) (sensorsStart m n)) [
+    | no more ↦ wrong (refusal 12 (sensorsStart m n)) (after-torques m n s (omega arith) refl)
     | yes none ↦ right (record { kind = standard; line = s .line; ratio = s .ratio; speeds = s .speeds; torques = s .torques })
         (all-rules 1 m n s standard tt, laid-again 1 m n s standard refl (sym (drop-of-length-le bytes none)))
   ]
@@ -108,36 +119,55 @@ module _ (bytes : List ℕ) where
     body-bytes : (at tag : ℕ) (allowed : ℕ → Bool) (body : List ℕ) → Stands bytes at tag allowed body → AreBytes body
     body-bytes at tag allowed body s = rw (body-there bytes at tag allowed body s) at (between-bytes bytes (at + 3) (at + 3 + length body) b)
 
-    measured-decided : (m n : ℕ) → AxesStand bytes 2 m n → Decided (Fault bytes) (λ (c : Component). Rules c × (layout c ≡ bytes))
-    unfolding measuredBytes
-    measured-decided m n s = elim (field-decided sensor-checked bytes (19 + 2 * m + 2 * n) 6 b) [
-      | wrong t f ↦ wrong t (in-input m n s f)
-      | right input p ↦
-          let i : SensorStands bytes (19 + 2 * m + 2 * n) 6 input = record { there = p .0; rules = p .1 } in
-          elim (field-decided sensor-checked bytes (40 + 2 * m + 2 * n) 7 b) [
-            | wrong t f ↦ wrong t (in-output m n input s i f)
-            | right output q ↦
-                let o : SensorStands bytes (40 + 2 * m + 2 * n) 7 output = record { there = q .0; rules = q .1 } in
-                elim (field-decided (rows-checked (exactly (8 * (m * n)))) bytes (61 + 2 * m + 2 * n) 8 b) [
-                  | wrong t f ↦ wrong t (in-rows m n input output s i o f)
-                  | right rows r ↦ elim (decLe (length bytes) (64 + 2 * m + 2 * n + 8 * (m * n))) [
-                    | no more ↦ wrong (refusal 12 (64 + 2 * m + 2 * n + 8 * (m * n))) (after-rows m n input output (rows .bytes) s i o (r .0) (omega arith) refl)
-                    | yes none ↦
-                        let long = eqb-true (length (rows .bytes)) (8 * (m * n)) (r .0 .fits) in
-                        let start : rows .start ≡ 64 + 2 * m + 2 * n = omega (arith, r .1) in
-                        let are = body-bytes (61 + 2 * m + 2 * n) 8 (exactly (8 * (m * n))) (rows .bytes) (r .0) in
-                        right (record { kind = measured input output rows; line = s .line; ratio = s .ratio; speeds = s .speeds; torques = s .torques })
-                        (all-rules 2 m n s (measured input output rows) (p .1, q .1, long, are, start), laid-again 2 m n s (measured input output rows) refl (three-fields bytes m n input output (rows .bytes) i o (r .0) none))
-                  ]
-                ]
+    sensors-decided : (at : ℕ) (tags : List ℕ) → Decided (SensorsFault bytes at tags) (λ (sensors : List Sensor). SensorsStand bytes at tags sensors)
+    sensors-decided at [] = right [] tt
+    sensors-decided at (tag ∷ tags) = elim (field-decided sensor-checked bytes at tag b) [
+      | wrong t f ↦ wrong t (inl f)
+      | right s p ↦
+          let stands : SensorStands bytes at tag s = record { there = p .0; rules = p .1 } in
+          elim (sensors-decided (at + 21) tags) [
+            | wrong t f ↦ wrong t (inr (s, stands, f))
+            | right sensors q ↦ right (s ∷ sensors) (stands, q)
           ]
     ]
 
+    module _ (kind m n : ℕ) (s : AxesStand bytes kind m n) (low : 2 ≤ kind) where
+      -- fields that stand there with nothing after them are laid out from numbers that keep every rule
+      measured-right : (sensors : List Sensor) (rows : Rows) → SensorsStand bytes (sensorsStart m n) (sensorTags kind) sensors
+          → Stands bytes (rowsHead kind m n) (rowsTag kind) (exactly (rowLength kind * (m * n))) (rows .bytes) → rows .start ≡ rowsHead kind m n + 3 → length bytes ≤ rowsEnd kind m n
+          → (c : Component) × Rules c × (layout c ≡ bytes)
+      measured-right (input ∷ outputs) rows stand r start none =
+          let high = s .axle-stands .kind-range .1 in
+          let count : sensorCount outputs ≡ kind = omega (arith, tags-count kind low high, sensors-count bytes (sensorsStart m n) (sensorTags kind) (input ∷ outputs) stand) in
+          let long = eqb-true (length (rows .bytes)) (rowLength kind * (m * n)) (r .fits) in
+          let rules : MeasuredRules m n input outputs rows = record {
+            some-output = omega arith;
+            most-outputs = omega arith;
+            sensors = sensors-rules bytes (sensorsStart m n) (sensorTags kind) (input ∷ outputs) stand;
+            long = rw count long;
+            are-bytes = body-bytes (rowsHead kind m n) (rowsTag kind) (exactly (rowLength kind * (m * n))) (rows .bytes) r;
+            start = rw count start;
+          } in (
+            record { kind = measured input outputs rows; line = s .line; ratio = s .ratio; speeds = s .speeds; torques = s .torques },
+            all-rules kind m n s (measured input outputs rows) rules,
+            laid-again kind m n s (measured input outputs rows) count (measured-fields input outputs rows kind count low high bytes m n stand r none),
+          )
+
+      measured-decided : Decided (Fault bytes) (λ (c : Component). Rules c × (layout c ≡ bytes))
+      measured-decided = elim (sensors-decided (sensorsStart m n) (sensorTags kind)) [
+        | wrong t f ↦ wrong t (in-sensors kind m n s low f)
+        | right sensors stand ↦ elim (field-decided (rows-checked (exactly (rowLength kind * (m * n)))) bytes (rowsHead kind m n) (rowsTag kind) b) [
+          | wrong t f ↦ wrong t (in-rows kind m n sensors s low stand f)
+          | right rows r ↦ elim (decLe (length bytes) (rowsEnd kind m n)) [
+            | no more ↦ wrong (refusal 12 (rowsEnd kind m n)) (after-rows kind m n sensors (rows .bytes) s low stand (r .0) (omega arith) refl)
+            | yes none ↦ let c = measured-right sensors rows stand (r .0) (r .1) none in right (c .0) (c .1, c .2)
+          ]
+        ]
+      ]
+
     by-kind : (kind m n : ℕ) → AxesStand bytes kind m n → Dec (kind ≡ 1) → Decided (Fault bytes) (λ (c : Component). Rules c × (layout c ≡ bytes))
     by-kind kind m n s (yes one) = standard-decided m n (rw one at s)
-    by-kind kind m n s (no other) =
-        let two : kind ≡ 2 = omega (arith, s .axle-stands .kind-range) in
-        measured-decided m n (rw two at s)
+    by-kind kind m n s (no other) = measured-decided kind m n s (omega (arith, s .axle-stands .kind-range))
 
     pub component-decided : Decided (Fault bytes) (λ (c : Component). Rules c × (layout c ≡ bytes))
     component-decided = elim (axes-decided bytes b) [

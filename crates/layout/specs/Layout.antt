@@ -2,8 +2,9 @@
 use Prim.Native.Nat.{ℕ, _/_, _%_}
 use mathlib.Core.List.{List, [], _∷_, _++_}
 use lib.ListN.{length}
-use Rattle.component.specs.Component.{Component, Kind, standard, measured, kindNumber}
+use Rattle.component.specs.Component.{Component, Kind, standard, measured, sensorCount, kindNumber, sensorTags, rowsTag}
 use Rattle.sensor.specs.Sensor.{sensorNumbers}
+use Rattle.sensor.specs.declared.Sensor.{Sensor}
 
 -- a number as two bytes, "most significant byte first"
 abbrev pub twoBytes : ℕ → List ℕ
@@ -18,13 +19,18 @@ numberBytes (n ∷ ns) = twoBytes n ++ numberBytes ns
 unfoldable pub fieldBytes : ℕ → List ℕ → List ℕ
 fieldBytes tag body = tag ∷ (twoBytes (length body) ++ body)
 
--- tags 6 to 8, "measured only"
+-- the fields of sensors, each with its tag
+unfoldable pub sensorBytes : (tags : List ℕ) → List Sensor → List ℕ
+sensorBytes [] sensors = []
+sensorBytes (tag ∷ tags) [] = []
+sensorBytes (tag ∷ tags) (sensor ∷ sensors) = fieldBytes tag (numberBytes (sensorNumbers sensor)) ++ sensorBytes tags sensors
+
+-- from tag 6 on, "measured only"
 unfoldable pub measuredBytes : Kind → List ℕ
 measuredBytes standard = []
-measuredBytes (measured input output rows) =
-    fieldBytes 6 (numberBytes (sensorNumbers input))
-    ++ (fieldBytes 7 (numberBytes (sensorNumbers output))
-    ++ fieldBytes 8 (rows .bytes))
+measuredBytes (measured input outputs rows) =
+    sensorBytes (sensorTags (sensorCount outputs)) (input ∷ outputs)
+    ++ fieldBytes (rowsTag (sensorCount outputs)) (rows .bytes)
 
 -- all fields in their order
 unfoldable pub layout : Component → List ℕ

@@ -1,4 +1,4 @@
--- How long component data is, and which of its bytes decide. Document 01, "The map program": the first 32,768 bytes are read, and the longest valid data has 16,640.
+-- How long component data is, and which of its bytes decide. Document 01, "The map program": the first 32,768 bytes are read. The longest valid data is of kind 3 (document 02, C-11).
 use Prim.Native.Nat.{ℕ, _≤_, _<_}
 use mathlib.Core.Path.{_≡_}
 use mathlib.Core.List.{List, _++_}
@@ -9,7 +9,7 @@ use Rattle.layout.specs.Rules.{AreBytes}
 
 -- the length of the longest data that is accepted
 abbrev pub longest : ℕ
-longest = 16640
+longest = 24853
 
 -- nothing longer is accepted
 abbrev pub NoneLonger : Type 0

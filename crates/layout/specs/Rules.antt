@@ -1,25 +1,45 @@
 -- Document 01, "Component data": the ranges, orders and counts that the numbers keep, said of each number by its index.
-use Prim.Native.Nat.{ℕ, _+_, _*_, _<_}
+use Prim.Native.Nat.{ℕ, _+_, _*_, _≤_, _<_}
 use mathlib.Core.Path.{_≡_}
-use mathlib.Core.List.{List}
+use mathlib.Core.List.{List, [], _∷_}
 use lib.ListN.{length, getD}
 use Rattle.grid.specs.Axis.{_to_}
 use Rattle.grid.specs.Rules.{InRange, AxisRules, FirstStep}
-use Rattle.component.specs.Component.{Component, Kind, standard, measured}
+use Rattle.component.specs.Component.{Component, Rows, Kind, standard, measured, sensorCount, rowLength}
 use Rattle.sensor.specs.Sensor.{SensorRules}
+use Rattle.sensor.specs.declared.Sensor.{Sensor}
 
 -- every number is a byte
 abbrev pub AreBytes : List ℕ → Type 0
 AreBytes bytes = (i : ℕ) → i < length bytes → getD bytes i 0 < 256
 
--- tag 8: a row of 8 bytes for each point.
--- The rows start after 64 bytes of heads and other numbers, and two bytes for each axis number.
+-- every sensor keeps its rules
+abbrev pub AllSensorRules : List Sensor → Type 0
+AllSensorRules [] = Unit {0}
+AllSensorRules (sensor ∷ sensors) = SensorRules sensor × AllSensorRules sensors
+
+-- where the sensors start: after the heads and numbers of tags 1 to 5
+abbrev pub sensorsStart : (speeds torques : ℕ) → ℕ
+sensorsStart speeds torques = 19 + 2 * speeds + 2 * torques
+
+-- where the head of the rows stands: a sensor has 21 bytes with its head
+abbrev pub rowsHead : (sensors speeds torques : ℕ) → ℕ
+rowsHead sensors speeds torques = sensorsStart speeds torques + 21 * sensors
+
+-- one output sensor or two, and a row for each point, past its field's head
+pub record MeasuredRules (speeds torques : ℕ) (input : Sensor) (outputs : List Sensor) (rows : Rows) : Type 0 where
+  pub some-output : 1 ≤ length outputs
+  pub most-outputs : length outputs ≤ 2
+  pub sensors : AllSensorRules (input ∷ outputs)
+  pub long : length (rows .bytes) ≡ rowLength (sensorCount outputs) * (speeds * torques)
+  pub are-bytes : AreBytes (rows .bytes)
+  pub start : rows .start ≡ rowsHead (sensorCount outputs) speeds torques + 3
+
 abbrev pub KindRules : (speeds torques : ℕ) → Kind → Type 0
 KindRules speeds torques standard = Unit {0}
-KindRules speeds torques (measured input output rows) =
-    SensorRules input × SensorRules output × (length (rows .bytes) ≡ 8 * (speeds * torques)) × AreBytes (rows .bytes) × (rows .start ≡ 64 + 2 * speeds + 2 * torques)
+KindRules speeds torques (measured input outputs rows) = MeasuredRules speeds torques input outputs rows
 
--- all rules of tags 1 to 8
+-- all rules of the fields
 pub record Rules (c : Component) : Type 0 where
   pub line : InRange (1 to 5) (c .line)
   pub ratio : InRange (1000 to 20000) (c .ratio)

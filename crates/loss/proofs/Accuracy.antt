@@ -1,4 +1,4 @@
--- Exact entries of both kinds are numbers, and entries are never below them and less than 0.01 Nm (kind 1) or 0.02 Nm (kind 2) above. Assumes nothing.
+-- Exact entries of standard and measured data are numbers, and entries are never below them and less than 0.01 Nm (standard) or 0.02 Nm (measured) above. Assumes nothing.
 use Prim.Native.Nat.{ℕ, zero, suc, _+_, _*_, _≤_, _<_}
 use mathlib.Core.Path.{_≡_, refl, ap, sym, _∙_}
 use mathlib.Core.Bool.{false}
@@ -55,7 +55,7 @@ module _ (number ratio torque : ℕ) where
       (square-not-negative (whole 0))
       (λ y h _. not-negative (is-plus-whole 0 (is-itself y)) (omega (arith, not-negative-of (is-itself y) h))))
 
--- ---- kind 2
+-- ---- kinds 2 and 3
 
 -- For any list of readings whose allowed excess is at most 99 grains, and any allowance that is not negative.
 pub readings-accurate : (x : Exact) (rs : List SensorReading) → AllDivisible rs → allowed rs ≤ 99000 →

@@ -23,13 +23,13 @@ exact-cases = (
           (
             (inl (le-by-compare _ _ tt), (le-by-compare _ _ tt, le-by-compare _ _ tt)),
             (
-              (inl (le-by-compare _ _ tt), (le-by-compare _ _ tt, le-by-compare _ _ tt)),
+              (inr (le-by-compare _ _ tt), (le-by-compare _ _ tt, le-by-compare _ _ tt)),
               (
-                (inl (le-by-compare _ _ tt), (le-by-compare _ _ tt, le-by-compare _ _ tt)),
+                (inr (le-by-compare _ _ tt), (le-by-compare _ _ tt, le-by-compare _ _ tt)),
                 (
-                  (inl (le-by-compare _ _ tt), (le-by-compare _ _ tt, le-by-compare _ _ tt)),
+                  (inr (le-by-compare _ _ tt), (le-by-compare _ _ tt, le-by-compare _ _ tt)),
                   (
-                    (inl (le-by-compare _ _ tt), (le-by-compare _ _ tt, le-by-compare _ _ tt)),
+                    (inr (le-by-compare _ _ tt), (le-by-compare _ _ tt, le-by-compare _ _ tt)),
                     (
                       (inl (le-by-compare _ _ tt), (le-by-compare _ _ tt, le-by-compare _ _ tt)),
                       (
@@ -45,10 +45,28 @@ exact-cases = (
                                 (
                                   (inl (le-by-compare _ _ tt), (le-by-compare _ _ tt, le-by-compare _ _ tt)),
                                   (
-                                    (inr (le-by-compare _ _ tt), (le-by-compare _ _ tt, le-by-compare _ _ tt)),
+                                    (inl (le-by-compare _ _ tt), (le-by-compare _ _ tt, le-by-compare _ _ tt)),
                                     (
-                                      (inr (le-by-compare _ _ tt), (le-by-compare _ _ tt, le-by-compare _ _ tt)),
-                                      tt,
+                                      (inl (le-by-compare _ _ tt), (le-by-compare _ _ tt, le-by-compare _ _ tt)),
+                                      (
+                                        (inl (le-by-compare _ _ tt), (le-by-compare _ _ tt, le-by-compare _ _ tt)),
+                                        (
+                                          (inl (le-by-compare _ _ tt), (le-by-compare _ _ tt, le-by-compare _ _ tt)),
+                                          (
+                                            (inl (le-by-compare _ _ tt), (le-by-compare _ _ tt, le-by-compare _ _ tt)),
+                                            (
+                                              (inr (le-by-compare _ _ tt), (le-by-compare _ _ tt, le-by-compare _ _ tt)),
+                                              (
+                                                (inr (le-by-compare _ _ tt), (le-by-compare _ _ tt, le-by-compare _ _ tt)),
+                                                (
+                                                  (inr (le-by-compare _ _ tt), (le-by-compare _ _ tt, le-by-compare _ _ tt)),
+                                                  tt,
+                                                ),
+                                              ),
+                                            ),
+                                          ),
+                                        ),
+                                      ),
                                     ),
                                   ),
                                 ),

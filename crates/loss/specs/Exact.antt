@@ -53,7 +53,7 @@ unfoldable pub exactStandard : (number ratio torque : ℕ) → Exact
 exactStandard number ratio torque =
     record { loss = standardLoss (lineOf number) ratio torque; allowance = whole 0; square = whole 0 }
 
--- ---- kind 2: no part is rounded
+-- ---- kinds 2 and 3: no part is rounded
 
 -- a part as it is, in hundredths of Nm
 unfoldable pub unrounded : Part → Fraction

@@ -175,11 +175,6 @@ sumOfTorques (o ∷ os) = o .torque + sumOfTorques os
 abbrev pub output : Row → ℕ
 output row = sumOfTorques (row .outputs)
 
--- a row of kind 2, which has one output sensor
-abbrev pub measuredRow : (ratio : ℕ) (inputSensor outputSensor : Sensor) (input output : ℕ) → Row
-measuredRow ratio inputSensor outputSensor input output =
-    record { ratio = ratio; sensor = inputSensor; input = input; outputs = record { sensor = outputSensor; torque = output } ∷ [] }
-
 -- the input sensor with the ratio, each output sensor with 1
 abbrev pub outputReading : Output → SensorReading
 outputReading o = record { factor = 1000; sensor = o .sensor; torque = o .torque }
@@ -193,7 +188,7 @@ rowUncertainty row = lossUncertainty (map readingUncertainty (readings row))
 unfoldable pub measuredEntry : Row → ℕ
 measuredEntry row = entryOf (row .ratio) (row .input) (output row) (rowUncertainty row)
 
--- What the accuracy of an entry rests on. An accepted row of kind 2 has it, with one output sensor.
+-- What the accuracy of an entry rests on. An accepted row has it, with one output sensor or two.
 abbrev pub AllInRange : List Output → Type 0
 AllInRange [] = Unit {0}
 AllInRange (o ∷ os) = SensorRules (o .sensor) × AllInRange os

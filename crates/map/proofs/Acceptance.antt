@@ -19,24 +19,24 @@ use Rattle.map.specs.Acceptance.{PointRules, PointFault, AllRowsRight, F
 kind-right : (c : Component) (kind : Kind) (i j : ℕ) → checkOfKind c i j kind ≡ accepted tt → PointRules c i j kind
 unfolding checkOfKind
 kind-right c standard i j e = tt
-kind-right c (measured input output rows) i j e = row-right _ _ _ (placed-accepted _ _ tt e)
+kind-right c (measured input outputs rows) i j e = row-right _ _ (placed-accepted _ _ tt e)
 
 kind-accepted : (c : Component) (kind : Kind) (i j : ℕ) → PointRules c i j kind → checkOfKind c i j kind ≡ accepted tt
 unfolding checkOfKind
 kind-accepted c standard i j r = refl
-kind-accepted c (measured input output rows) i j r = rw (row-accepted _ _ _ r)
+kind-accepted c (measured input outputs rows) i j r = rw (row-accepted _ _ r)
 
 kind-wrong : (c : Component) (kind : Kind) (i j : ℕ) (told : Told) → checkOfKind c i j kind ≡ refused told → PointFault c i j kind told
 unfolding checkOfKind
 kind-wrong c standard i j told e = never told tt (sym e)
-kind-wrong c (measured input output rows) i j told e =
+kind-wrong c (measured input outputs rows) i j told e =
     let p = placed-refused _ _ told e in
-    row-wrong _ _ _ _ told (p .0) (p .1) (p .2)
+    row-wrong _ _ _ told (p .0) (p .1) (p .2)
 
 kind-refused : (c : Component) (kind : Kind) (i j : ℕ) (told : Told) → PointFault c i j kind told → checkOfKind c i j kind ≡ refused told
 unfolding checkOfKind
 kind-refused c standard i j told f = absurd f
-kind-refused c (measured input output rows) i j told f = row-refused _ _ _ _ told f
+kind-refused c (measured input outputs rows) i j told f = row-refused _ _ _ told f
 
 -- ---- all rows
 speed-right : (c : Component) (i : ℕ) → speedCheck c i ≡ accepted tt → (j : ℕ) → j < torqueCount c → PointRules c i j (c .kind)

@@ -1,7 +1,7 @@
 -- What is built of data that was read: too few lent entries, standard data, and measured data row by row. Assumes nothing.
 use Prim.Native.Nat.{ℕ, zero, suc, _+_, _-_, _*_, _≤_, _<_}
-use mathlib.Core.Path.{_≡_, refl, sym, ap}
-use mathlib.Core.List.{List}
+use mathlib.Core.Path.{_≡_, refl, sym}
+use mathlib.Core.List.{List, [], _∷_}
 use native.Mathlib.Omega.{arith}
 use borrow.Author.Tests.{le-leb, lt-leb}
 use lib.ListN.{length, drop}
@@ -11,11 +11,10 @@ use Rattle.refusal.proofs.First.{first-of}
 use Rattle.fields.specs.Bytes.{between}
 use Rattle.component.specs.Component.{Component, Rows, standard, measured}
 use Rattle.sensor.specs.declared.Sensor.{Sensor}
-use Rattle.loss.specs.Measured.{measuredEntry}
 use Rattle.grid.specs.Lists.{joined}
-use Rattle.rows.specs.Rows.{Torques, rowAt, rowOf}
+use Rattle.rows.specs.Rows.{Bench, torqueAt, outputsAt, rowAt, rowStart}
 use Rattle.grid.proofs.Lists.{tabulate-same, joined-same}
-use Rattle.map.specs.Build.{points, entry, entryOfKind, check, checkOfKind, speedCheck, rowsCheck, speedEntries, entries, mapOf}
+use Rattle.map.specs.Build.{points, benchOf, entry, entryOfKind, check, checkOfKind, speedCheck, rowsCheck, speedEntries, entries, mapOf}
 use Rattle.map.specs.Answers.{standardAt, standardRow}
 use Rattle.rows.specs.Answers.{partCheck, partEntry, speedPartCheck, speedPartEntries}
 
@@ -54,35 +53,51 @@ module _ (line ratio : ℕ) (speeds torques : List ℕ) where
 between-part : (s : List ℕ) (a x y : ℕ) → between (drop a s) x y ≡ between s (a + x) (a + y)
 between-part s a x y = let z : a + y - (a + x) ≡ y - x = omega arith in rw (drop-drop x a s, z)
 
-row-part : (bytes : List ℕ) (first j : ℕ) → rowAt (drop (8 * first) bytes) j ≡ rowAt bytes (first + j)
-unfolding rowAt
-row-part bytes first j =
-    let a : 8 * first + 8 * j ≡ 8 * (first + j) = omega arith in
-    let b : 8 * first + (8 * j + 4) ≡ 8 * (first + j) + 4 = omega arith in
-    let d : 8 * first + (8 * j + 8) ≡ 8 * (first + j) + 8 = omega arith in
-    rw (between-part bytes (8 * first) (8 * j) (8 * j + 4), between-part bytes (8 * first) (8 * j + 4) (8 * j + 8), a, b, d)
+torque-part : (bytes : List ℕ) (first at : ℕ) → torqueAt (drop first bytes) at ≡ torqueAt bytes (first + at)
+unfolding torqueAt
+torque-part bytes first at = let z : first + (at + 4) ≡ first + at + 4 = omega arith in rw (between-part bytes first at (at + 4), z)
 
-module _ (line ratio : ℕ) (speeds torques : List ℕ) (input output : Sensor) (rows : Rows) where
+outputs-part : (sensors : List Sensor) (bytes : List ℕ) (first at : ℕ) → outputsAt sensors (drop first bytes) at ≡ outputsAt sensors bytes (first + at)
+unfolding outputsAt
+outputs-part [] bytes first at = refl
+outputs-part (sensor ∷ sensors) bytes first at =
+    let z : first + (at + 4) ≡ first + at + 4 = omega arith in
+    rw (torque-part bytes first at, outputs-part sensors bytes first (at + 4), z)
+
+row-part : (bench : Bench) (bytes : List ℕ) (first at : ℕ) → rowAt bench (drop first bytes) at ≡ rowAt bench bytes (first + at)
+unfolding rowAt
+row-part bench bytes first at =
+    let z : first + (at + 4) ≡ first + at + 4 = omega arith in
+    rw (torque-part bytes first at, outputs-part (bench .outputs) bytes first (at + 4), z)
+
+module _ (line ratio : ℕ) (speeds torques : List ℕ) (input : Sensor) (outputs : List Sensor) (rows : Rows) where
+  abbrev pub measuredSays : Component
+  measuredSays = record { kind = measured input outputs rows; line = line; ratio = ratio; speeds = speeds; torques = torques }
+
+  -- the bench of these data
+  abbrev bench : Bench
+  bench = benchOf measuredSays input outputs
+
+  starts : (i j : ℕ) → rowStart bench (i * length torques) + rowStart bench j ≡ rowStart bench (i * length torques + j)
+  starts i j = omega arith
+
   part-check : (i j : ℕ)
-      → partCheck (record { ratio = ratio; input = input; output = output }) torques (drop (8 * (i * length torques)) (rows .bytes)) (rows .start + 8 * (i * length torques)) j
-      ≡ checkOfKind (record { kind = measured input output rows; line = line; ratio = ratio; speeds = speeds; torques = torques }) i j (measured input output rows)
+      → partCheck bench torques (drop (rowStart bench (i * length torques)) (rows .bytes)) (rows .start + rowStart bench (i * length torques)) j
+      ≡ checkOfKind measuredSays i j (measured input outputs rows)
   unfolding partCheck checkOfKind
   part-check i j =
-      let z : rows .start + 8 * (i * length torques) + 8 * j ≡ rows .start + 8 * (i * length torques + j) = omega arith in
-      rw (row-part (rows .bytes) (i * length torques) j, z)
+      let z : rows .start + rowStart bench (i * length torques) + rowStart bench j ≡ rows .start + rowStart bench (i * length torques + j) = omega (arith, starts i j) in
+      rw (row-part bench (rows .bytes) (rowStart bench (i * length torques)) (rowStart bench j), z, starts i j)
 
-  pub measured-checked : firstRefusal (speedPartCheck (record { ratio = ratio; input = input; output = output }) torques (rows .bytes) (rows .start)) 0 (length speeds)
-      ≡ rowsCheck (record { kind = measured input output rows; line = line; ratio = ratio; speeds = speeds; torques = torques })
+  pub measured-checked : firstRefusal (speedPartCheck bench torques (rows .bytes) (rows .start)) 0 (length speeds) ≡ rowsCheck measuredSays
   unfolding rowsCheck speedCheck check speedPartCheck
   measured-checked = first-same _ _ (λ i. first-same _ _ (λ j. part-check i j) 0 (length torques)) 0 (length speeds)
 
   part-entry : (i j : ℕ)
-      → partEntry (record { ratio = ratio; input = input; output = output }) (drop (8 * (i * length torques)) (rows .bytes)) j
-      ≡ entryOfKind (record { kind = measured input output rows; line = line; ratio = ratio; speeds = speeds; torques = torques }) i j (measured input output rows)
+      → partEntry bench (drop (rowStart bench (i * length torques)) (rows .bytes)) j ≡ entryOfKind measuredSays i j (measured input outputs rows)
   unfolding partEntry entryOfKind
-  part-entry i j = ap (λ (t : Torques). measuredEntry (rowOf (record { ratio = ratio; input = input; output = output }) t)) (row-part (rows .bytes) (i * length torques) j)
+  part-entry i j = rw (row-part bench (rows .bytes) (rowStart bench (i * length torques)) (rowStart bench j), starts i j)
 
-  pub measured-entries : joined (speedPartEntries (record { ratio = ratio; input = input; output = output }) torques (rows .bytes)) (length speeds)
-      ≡ entries (record { kind = measured input output rows; line = line; ratio = ratio; speeds = speeds; torques = torques })
+  pub measured-entries : joined (speedPartEntries bench torques (rows .bytes)) (length speeds) ≡ entries measuredSays
   unfolding entries speedEntries entry speedPartEntries
   measured-entries = joined-same _ _ (length speeds) (λ i h. tabulate-same _ _ (λ j. part-entry i j) (length torques))

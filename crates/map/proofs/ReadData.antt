@@ -12,23 +12,24 @@ use Rattle.refusal.specs.Table.{told, answerSays}
 use Rattle.grid.specs.Map.{speedsOf, torquesOf}
 use Rattle.grid.specs.declared.Grid.{Grid}
 use Rattle.fields.specs.Bytes.{between}
-use Rattle.component.specs.Component.{standard, measured, Component as ComponentSays}
-use Rattle.component.specs.Answers.{componentOf, rowsOf}
+use Rattle.sensor.specs.declared.Sensor.{Sensor}
+use Rattle.component.specs.Component.{standard, measured, sensorCount, Component as ComponentSays}
+use Rattle.component.specs.Answers.{componentOf, rowsOf, outputsOf}
 use Rattle.component.specs.declared.Component.{Component}
 use Rattle.layout.specs.Rules.{AreBytes, Rules, KindRules}
 use Rattle.layout.proofs.Theorems.{sound}
-use Rattle.loss.specs.Measured.{fixedParts}
 use Rattle.grid.specs.Lists.{joined, overwritten}
 use Rattle.map.specs.Build.{points, entries, mapOf, rowsCheck, content}
 use Rattle.map.specs.Answers.{NoneAbove, standardRow, EntriesWritten, answerOf, ReadAs, BuildsEntries}
-use Rattle.rows.specs.Answers.{speedPartCheck, speedPartEntries, BenchRight, benchOf}
+use Rattle.rows.specs.Answers.{speedPartCheck, speedPartEntries, benchWith, BenchRight, benchOf}
+use Rattle.rows.specs.Rows.{rowStart}
 use Rattle.refusal.specs.declared.Answer.{Answer}
 use Rattle.refusal.specs.declared.Answer.the-variants.{Accepted, Refused}
 use Rattle.rows.specs.declared.Bench.{Bench as BenchParts}
 use Rattle.refusal.specs.declared.Refusal.the-variants.{TooShort}
 use Rattle.grid.proofs.Lists.{length-tabulate, length-joined}
 use Rattle.rows.proofs.SpeedParts.{speed-size}
-use Rattle.map.proofs.Maps.{too-few, rows-refused, rows-fine, standard-checked, standard-entries, measured-checked, measured-entries}
+use Rattle.map.proofs.Maps.{too-few, rows-refused, rows-fine, standard-checked, standard-entries, measuredSays, measured-checked, measured-entries}
 
 -- the place past a part of the data is within the data
 pub part-within : (bytes : List ℕ) (start end limit : ℕ) → start ≤ end → end ≤ length bytes → length bytes < limit → start + length (between bytes start end) < limit
@@ -100,38 +101,46 @@ module _ (bytes : List ℕ) (c : Component) (r : ReadAs bytes c) (torques : List
 
     -- ---- measured data
     module _ (kind : c .kind ≡ 1 → ⊥) where
+      abbrev outputs : List Sensor
+      outputs = outputsOf (c .kind) (c .output) (c .right)
+
       measured-says : componentOf bytes c
-          ≡ record { kind = measured (c .input) (c .output) (rowsOf bytes (c .rows)); line = c .line; ratio = c .ratio; speeds = speedsOf (c .grid .speeds); torques = torquesOf (c .grid .torques) }
+          ≡ measuredSays (c .line) (c .ratio) (speedsOf (c .grid .speeds)) (torquesOf (c .grid .torques)) (c .input) outputs (rowsOf bytes (c .rows))
       measured-says = rw (ne-eqb (c .kind) 1 kind)
 
-      kind-rules : KindRules (length (speedsOf (c .grid .speeds))) (length (torquesOf (c .grid .torques))) (measured (c .input) (c .output) (rowsOf bytes (c .rows)))
+      kind-rules : KindRules (length (speedsOf (c .grid .speeds))) (length (torquesOf (c .grid .torques))) (measured (c .input) outputs (rowsOf bytes (c .rows)))
       kind-rules = rw (ne-eqb (c .kind) 1 kind) at (rules .kind)
 
-      pub bench-right : (b : BenchParts)
-          → (b .ratio ≡ c .ratio) × (b .input .sensor ≡ c .input) × (b .input .fixed ≡ fixedParts (c .input)) × (b .output .sensor ≡ c .output) × (b .output .fixed ≡ fixedParts (c .output))
-          → BenchRight b
-      bench-right b h = record {
-        ratio = rw (h .0) ratio-most;
-        input = record { rules = rw (h .1) (kind-rules .0); fixed = h .2 ∙ ap fixedParts (sym (h .1)) };
-        output = record { rules = rw (h .3) (kind-rules .1); fixed = h .4 ∙ ap fixedParts (sym (h .3)) };
-      }
+      -- as many sensors as the kind's number
+      kind-is : c .kind ≡ sensorCount outputs
+      kind-is = rw (ne-eqb (c .kind) 1 kind) at (r .kind)
 
-      pub rows-long : 8 * (c .grid .speeds .count * length torques) ≤ length (between bytes (c .rows .start) (c .rows .end))
-      rows-long = le-of-eq (rw (e, ← r .counts .speeds-length) (sym (kind-rules .2)))
+      pub bench-right : (b : BenchParts) → b ≡ benchWith (c .kind) (c .ratio) (c .input) (c .output) (c .right) → BenchRight b
+      bench-right b h =
+          rw h
+          (record {
+            ratio = ratio-most;
+            least = omega (arith, kind-is, kind-rules .some-output);
+            most = omega (arith, kind-is, kind-rules .most-outputs);
+            input = record { rules = kind-rules .sensors .0; fixed = refl };
+            output = record { rules = kind-rules .sensors .1 .0; fixed = refl };
+            right = λ three. record { rules = (rw (ne-eqb (c .kind) 2 (λ two. absurd (omega arith))) at (kind-rules .sensors .1 .1)) .0; fixed = refl };
+          })
+
+      pub rows-long : (b : BenchParts) → b ≡ benchWith (c .kind) (c .ratio) (c .input) (c .output) (c .right)
+          → rowStart (benchOf b) (c .grid .speeds .count * length torques) ≤ length (between bytes (c .rows .start) (c .rows .end))
+      rows-long b h = le-of-eq (rw (h, e, ← r .counts .speeds-length) (sym (kind-rules .long)))
 
       module _ (before after : List ℕ) (room : c .grid .speeds .count * length torques ≤ length before) (b : BenchParts)
-          (h : (b .ratio ≡ c .ratio) × (b .input .sensor ≡ c .input) × (b .input .fixed ≡ fixedParts (c .input)) × (b .output .sensor ≡ c .output) × (b .output .fixed ≡ fixedParts (c .output))) where
-        bench-is : benchOf b ≡ record { ratio = c .ratio; input = c .input; output = c .output }
-        bench-is = rw (h .0, h .1, h .3)
-
+          (h : b ≡ benchWith (c .kind) (c .ratio) (c .input) (c .output) (c .right)) where
         checked : firstRefusal (speedPartCheck (benchOf b) torques (between bytes (c .rows .start) (c .rows .end)) (c .rows .start)) 0 (c .grid .speeds .count) ≡ rowsCheck (componentOf bytes c)
         checked =
-            rw (measured-says, ← measured-checked (c .line) (c .ratio) (speedsOf (c .grid .speeds)) (torquesOf (c .grid .torques)) (c .input) (c .output) (rowsOf bytes (c .rows)), r .counts .speeds-length, e, bench-is)
+            rw (measured-says, ← measured-checked (c .line) (c .ratio) (speedsOf (c .grid .speeds)) (torquesOf (c .grid .torques)) (c .input) outputs (rowsOf bytes (c .rows)), r .counts .speeds-length, e, h)
             refl
 
         written-entries : joined (speedPartEntries (benchOf b) torques (between bytes (c .rows .start) (c .rows .end))) (c .grid .speeds .count) ≡ entries (componentOf bytes c)
         written-entries =
-            rw (measured-says, ← measured-entries (c .line) (c .ratio) (speedsOf (c .grid .speeds)) (torquesOf (c .grid .torques)) (c .input) (c .output) (rowsOf bytes (c .rows)), r .counts .speeds-length, e, bench-is)
+            rw (measured-says, ← measured-entries (c .line) (c .ratio) (speedsOf (c .grid .speeds)) (torquesOf (c .grid .torques)) (c .input) outputs (rowsOf bytes (c .rows)), r .counts .speeds-length, e, h)
             refl
 
         pub measured-built : (a : Answer)

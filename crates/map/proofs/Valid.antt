@@ -106,7 +106,7 @@ built-from bytes lent m e =
 kind-small : (c : Component) (kind : Kind) (s j : ℕ) → Rules c → j < torqueCount c → checkOfKind c s j kind ≡ accepted tt → entryOfKind c s j kind ≤ 10000000
 unfolding checkOfKind entryOfKind
 kind-small c standard s j r h e = standard-most _ _ _ (r .line .0) (r .line .1) (r .ratio .1) (r .torques .ranges j h .1)
-kind-small c (measured input output rows) s j r h e = row-right _ _ _ (placed-accepted _ _ tt e) .small
+kind-small c (measured input outputs rows) s j r h e = row-right _ _ (placed-accepted _ _ tt e) .small
 
 pub entry-small : (c : Component) (s j : ℕ) → Rules c → rowsCheck c ≡ accepted tt → s < length (c .speeds) → j < torqueCount c → entry c s j ≤ 10000000
 unfolding rowsCheck speedCheck check entry

@@ -1,6 +1,6 @@
 -- What the whole build gives, from the reading of the data and from the entries. Assumes nothing.
 use Prim.Native.Nat.{ℕ}
-use mathlib.Core.Path.{_≡_}
+use mathlib.Core.Path.{_≡_, sym}
 use mathlib.Core.List.{List}
 use lib.ListN.{length}
 use Rattle.refusal.specs.Outcome.{refused}
@@ -33,7 +33,9 @@ module _ (bytes : List ℕ) where
 
   -- data that it accepts
   pub reading-accepted : (reading : Reading) → Reads bytes reading → reading .answer ≡ Accepted → ReadAs bytes (reading .component)
-  reading-accepted reading p e = record { read = rw e at (p .outcome); counts = p .counts; rows = p .rows }
+  reading-accepted reading p e =
+      let read = rw e at (p .outcome) in
+      record { read = read; kind = p .kind _ (sym read); counts = p .counts; rows = p .rows }
 
   after-reading : (c : Component) (lent : ℕ) → ReadAs bytes c → build bytes lent ≡ mapOf (componentOf bytes c) lent
   unfolding build

@@ -1,5 +1,5 @@
 -- A build is accepted exactly when no refusal applies: 1 to 6 and 12 as in the reading of the data, 11, and 7 to 10 said of each row.
-use Prim.Native.Nat.{ℕ, _+_, _*_, _≤_, _<_}
+use Prim.Native.Nat.{ℕ, _+_, _≤_, _<_}
 use mathlib.Core.Path.{_≡_}
 use mathlib.Core.List.{List}
 use lib.ListN.{length, getD}
@@ -8,21 +8,18 @@ use Rattle.component.specs.Component.{Component, Kind, standard, measured}
 use Rattle.layout.specs.Layout.{layout}
 use Rattle.layout.specs.Rules.{AreBytes, Rules}
 use Rattle.layout.specs.Acceptance.{Fault}
-use Rattle.rows.specs.Rows.{rowAt}
 use Rattle.rows.specs.Acceptance.{RowRules, RowFault}
-use Rattle.map.specs.Build.{LossMap, points, torqueCount, pointIndex, entries, build}
+use Rattle.map.specs.Build.{LossMap, points, torqueCount, pointStart, pointRow, entries, build}
 
 -- ---- the row of a point; standard data has none
 abbrev pub PointRules : Component → (speed torque : ℕ) → Kind → Type 0
 PointRules c speed torque standard = Unit {0}
-PointRules c speed torque (measured input output rows) =
-    RowRules (record { ratio = c .ratio; input = input; output = output }) (getD (c .torques) torque 0) (rowAt (rows .bytes) (pointIndex c speed torque))
+PointRules c speed torque (measured input outputs rows) = RowRules (getD (c .torques) torque 0) (pointRow c speed torque input outputs rows)
 
 abbrev pub PointFault : Component → (speed torque : ℕ) → Kind → Told → Type 0
 PointFault c speed torque standard told = ⊥
-PointFault c speed torque (measured input output rows) told =
-    RowFault (record { ratio = c .ratio; input = input; output = output }) (getD (c .torques) torque 0) (rowAt (rows .bytes) (pointIndex c speed torque))
-    (rows .start + 8 * pointIndex c speed torque) told
+PointFault c speed torque (measured input outputs rows) told =
+    RowFault (getD (c .torques) torque 0) (pointRow c speed torque input outputs rows) (rows .start + pointStart c speed torque input outputs) told
 
 -- every row keeps its rules
 abbrev pub AllRowsRight : Component → Type 0

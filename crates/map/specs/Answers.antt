@@ -8,7 +8,7 @@ use Rattle.refusal.specs.Table.{told}
 use Rattle.grid.specs.Map.{speedsOf, torquesOf}
 use Rattle.grid.specs.Lists.{tabulate, overwritten}
 use Rattle.grid.specs.declared.Grid.{Grid}
-use Rattle.component.specs.Component.{component}
+use Rattle.component.specs.Component.{kindNumber, component}
 use Rattle.component.specs.Answers.{CountsWithin, PartWithin, componentOf}
 use Rattle.component.specs.declared.Component.{Component}
 use Rattle.loss.specs.Standard.{standardEntry}
@@ -53,6 +53,7 @@ answerOf (Refused x) grid entries = refused (told x)
 -- the code's numbers are those of the data
 pub record ReadAs (bytes : List ℕ) (c : Component) : Type 0 where
   pub read : accepted (componentOf bytes c) ≡ component bytes
+  pub kind : c .kind ≡ kindNumber (componentOf bytes c .kind)
   pub counts : CountsWithin (c .grid)
   pub rows : PartWithin (length bytes) (c .rows)
 

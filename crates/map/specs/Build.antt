@@ -4,11 +4,12 @@ use mathlib.Core.List.{List}
 use lib.Dec.{leb}
 use lib.ListN.{length, getD}
 use Rattle.refusal.specs.Outcome.{Outcome, accepted, refused, _>>=_, require, placed, firstRefusal}
-use Rattle.component.specs.Component.{Component, Kind, standard, measured, component}
+use Rattle.component.specs.Component.{Component, Rows, Kind, standard, measured, component}
 use Rattle.loss.specs.Standard.{standardEntry}
-use Rattle.loss.specs.Measured.{measuredEntry}
 use Rattle.grid.specs.Lists.{tabulate, joined, overwritten}
-use Rattle.rows.specs.Rows.{rowAt, rowOf, rowCheck}
+use Rattle.sensor.specs.declared.Sensor.{Sensor}
+use Rattle.loss.specs.Measured.{Row, measuredEntry}
+use Rattle.rows.specs.Rows.{Bench, rowAt, rowStart, rowCheck}
 
 -- how many torques there are for each speed, and how many points in all
 abbrev pub torqueCount : Component → ℕ
@@ -21,11 +22,21 @@ points c = length (c .speeds) * torqueCount c
 abbrev pub pointIndex : Component → ℕ → ℕ → ℕ
 pointIndex c speed torque = speed * torqueCount c + torque
 
+-- what all rows of measured data share
+abbrev pub benchOf : Component → Sensor → List Sensor → Bench
+benchOf c input outputs = record { ratio = c .ratio; input = input; outputs = outputs }
+
+-- where the row of a point starts in the bytes of all rows, and the row
+abbrev pub pointStart : Component → (speed torque : ℕ) → Sensor → List Sensor → ℕ
+pointStart c speed torque input outputs = rowStart (benchOf c input outputs) (pointIndex c speed torque)
+
+abbrev pub pointRow : Component → (speed torque : ℕ) → Sensor → List Sensor → Rows → Row
+pointRow c speed torque input outputs rows = rowAt (benchOf c input outputs) (rows .bytes) (pointStart c speed torque input outputs)
+
 -- the entry of a point, by the indices of its speed and its torque
 unfoldable pub entryOfKind : Component → ℕ → ℕ → Kind → ℕ
 entryOfKind c speed torque standard = standardEntry (c .line) (c .ratio) (getD (c .torques) torque 0)
-entryOfKind c speed torque (measured input output rows) =
-    measuredEntry (rowOf (record { ratio = c .ratio; input = input; output = output }) (rowAt (rows .bytes) (pointIndex c speed torque)))
+entryOfKind c speed torque (measured input outputs rows) = measuredEntry (pointRow c speed torque input outputs rows)
 
 unfoldable pub entry : Component → ℕ → ℕ → ℕ
 entry c speed torque = entryOfKind c speed torque (c .kind)
@@ -33,9 +44,9 @@ entry c speed torque = entryOfKind c speed torque (c .kind)
 -- the refusal of a point's row, at its place in the data; standard data has no rows
 unfoldable pub checkOfKind : Component → ℕ → ℕ → Kind → Outcome (Unit {0})
 checkOfKind c speed torque standard = accepted tt
-checkOfKind c speed torque (measured input output rows) =
-    placed (λ place. rows .start + 8 * pointIndex c speed torque + place)
-    (rowCheck (record { ratio = c .ratio; input = input; output = output }) (getD (c .torques) torque 0) (rowAt (rows .bytes) (pointIndex c speed torque)))
+checkOfKind c speed torque (measured input outputs rows) =
+    placed (λ place. rows .start + pointStart c speed torque input outputs + place)
+    (rowCheck (getD (c .torques) torque 0) (pointRow c speed torque input outputs rows))
 
 unfoldable pub check : Component → ℕ → ℕ → Outcome (Unit {0})
 check c speed torque = checkOfKind c speed torque (c .kind)

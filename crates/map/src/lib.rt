@@ -13,6 +13,7 @@ ghost use Rattle.grid.specs.Map.{torquesOf};
 ghost use Rattle.loss.specs.Standard.{standardEntry};
 ghost use Rattle.grid.specs.Lists.{tabulate, joined, overwritten};
 ghost use Rattle.map.specs.Answers.{stretch, standardAt, standardRow, EntriesWritten, NoneAbove, ReadAs, BuildsEntries, WithGrid, Builds};
+ghost use Rattle.rows.specs.Rows.{rowStart};
 ghost use Rattle.rows.specs.Answers.{speedPartCheck, speedPartEntries, benchOf, BenchRight};
 
 // Where the answer is a refusal, the grid means nothing.
@@ -110,7 +111,7 @@ fn build_measured(
 ) -> Answer
     requires { ⌜
         BenchRight bench
-        × (8 * (speeds * length (now torques)) ≤ length (now rows))
+        × (rowStart (benchOf bench) (speeds * length (now torques)) ≤ length (now rows))
         × (speeds * length (now torques) ≤ length (now buffer))
         × (speeds * length (now torques) ≤ length (now entries))
         × (place + length (now rows) < 2 ^ 64)
@@ -154,7 +155,7 @@ fn build_points(
     let rows = c.rows;
     let start = rows.start;
     let end = rows.end;
-    let bench = rows::bench_of(c.ratio, c.input, c.output);
+    let bench = rows::bench_of(c.kind, c.ratio, c.input, c.output, c.right);
     build_measured(
         &data[start..end],
         start,

@@ -1,62 +1,69 @@
 -- The cases of a row: which refusal it gives, and its entry. Assumes nothing.
 use Prim.Native.Nat.{ℕ, _+_, _*_, _≤_, _<_}
-use mathlib.Core.Path.{_≡_, sym, _∙_}
+use mathlib.Core.Path.{_≡_, refl, sym, _∙_}
 use mathlib.Core.Bool.{true, false}
+use mathlib.Core.List.{List, [], _∷_}
+use mathlib.Core.Logic.{⊎-elim}
 use native.Mathlib.Omega.{arith}
 use borrow.Author.Tests.{le-leb, lt-leb}
-use Rattle.refusal.specs.Outcome.{accepted, refused, refuse, placed, Told}
-use Rattle.loss.specs.Measured.{lossIsUnderZero, rowUncertainty, entryOf, measuredEntry}
-use mathlib.Core.Logic.{⊎-elim}
+use Rattle.refusal.specs.Outcome.{accepted, refused, refuse, refusal, placed, Told}
 use Rattle.refusal.proofs.Steps.{never, then-refused}
-use Rattle.rows.specs.Rows.{Torques, Bench, rowOf, nearAxis, rowCheck}
+use Rattle.loss.specs.Measured.{Output, Row, output, lossIsUnderZero, rowUncertainty, entryOf, measuredEntry}
+use Rattle.rows.specs.Rows.{nearAxis, outputsCheck, rowCheck}
+use Rattle.rows.specs.Acceptance.{OutputsWithin}
 use Rattle.rows.specs.Answers.{rowOutcome}
 
-module _ (bench : Bench) (torque : ℕ) (t : Torques) where
+-- outputs whose torques are not above are passed
+pub outputs-accepted : (os : List Output) (place : ℕ) → OutputsWithin os → outputsCheck os place ≡ accepted tt
+unfolding outputsCheck
+outputs-accepted [] place h = refl
+outputs-accepted (o ∷ os) place h = rw (le-leb _ _ (h .0), outputs-accepted os (place + 4) (h .1))
+
+module _ (torque : ℕ) (row : Row) where
   module _ (place : ℕ) where
-    at-start : (number : ℕ) → rowCheck bench torque t ≡ refuse number 0 → refuse number place ≡ rowOutcome bench torque t place
+    told-there : (t : Told) → rowCheck torque row ≡ refused t → refused (refusal (t .number) (place + t .place)) ≡ rowOutcome torque row place
     unfolding rowOutcome
-    at-start number e = let z : place + 0 ≡ place = omega arith in rw (e, z)
+    told-there t e = rw e
 
-    at-output : (number : ℕ) → rowCheck bench torque t ≡ refuse number 4 → refuse number (place + 4) ≡ rowOutcome bench torque t place
-    unfolding rowOutcome
-    at-output number e = rw e
+    at-start : (number : ℕ) → rowCheck torque row ≡ refuse number 0 → refuse number place ≡ rowOutcome torque row place
+    at-start number e = let z : place + 0 ≡ place = omega arith in rw z at (told-there (refusal number 0) e)
 
-    pub input-above : 100 * bench .input .nominal < t .input → refuse 7 place ≡ rowOutcome bench torque t place
+    pub input-above : 100 * row .sensor .nominal < row .input → refuse 7 place ≡ rowOutcome torque row place
     unfolding rowCheck
     input-above h = at-start 7 (rw (lt-leb _ _ h))
 
-    module _ (input : t .input ≤ 100 * bench .input .nominal) where
-      pub output-above : 100 * bench .output .nominal < t .output → refuse 7 (place + 4) ≡ rowOutcome bench torque t place
+    module _ (input : row .input ≤ 100 * row .sensor .nominal) where
+      pub output-above : (t : Told) → outputsCheck (row .outputs) 4 ≡ refused t → refused (refusal (t .number) (place + t .place)) ≡ rowOutcome torque row place
       unfolding rowCheck
-      output-above h = at-output 7 (rw (le-leb _ _ input, lt-leb _ _ h))
+      output-above t e = told-there t (rw (le-leb _ _ input, e))
 
-      module _ (output : t .output ≤ 100 * bench .output .nominal) where
-        pub off-axis : nearAxis torque (t .output) ≡ false → refuse 8 (place + 4) ≡ rowOutcome bench torque t place
+      module _ (outputs : OutputsWithin (row .outputs)) where
+        pub off-axis : nearAxis torque (output row) ≡ false → refuse 8 (place + 4) ≡ rowOutcome torque row place
         unfolding rowCheck
-        off-axis h = at-output 8 (rw (le-leb _ _ input, le-leb _ _ output, h))
+        off-axis h = told-there (refusal 8 4) (rw (le-leb _ _ input, outputs-accepted (row .outputs) 4 outputs, h))
 
-        module _ (near : nearAxis torque (t .output) ≡ true) where
-          pub negative : lossIsUnderZero (bench .ratio) (t .input) (t .output) ≡ true → refuse 9 place ≡ rowOutcome bench torque t place
+        module _ (near : nearAxis torque (output row) ≡ true) where
+          pub negative : lossIsUnderZero (row .ratio) (row .input) (output row) ≡ true → refuse 9 place ≡ rowOutcome torque row place
           unfolding rowCheck
-          negative h = at-start 9 (rw (le-leb _ _ input, le-leb _ _ output, near, h))
+          negative h = at-start 9 (rw (le-leb _ _ input, outputs-accepted (row .outputs) 4 outputs, near, h))
 
-          module _ (loss : lossIsUnderZero (bench .ratio) (t .input) (t .output) ≡ false) (entry : ℕ) (e : entry ≡ measuredEntry (rowOf bench t)) where
-            pub too-large : 10000000 < entry → refuse 10 place ≡ rowOutcome bench torque t place
+          module _ (loss : lossIsUnderZero (row .ratio) (row .input) (output row) ≡ false) (entry : ℕ) (e : entry ≡ measuredEntry row) where
+            pub too-large : 10000000 < entry → refuse 10 place ≡ rowOutcome torque row place
             unfolding rowCheck
-            too-large h = at-start 10 (rw (le-leb _ _ input, le-leb _ _ output, near, loss, ← e, lt-leb _ _ h))
+            too-large h = at-start 10 (rw (le-leb _ _ input, outputs-accepted (row .outputs) 4 outputs, near, loss, ← e, lt-leb _ _ h))
 
-            pub entry-given : entry ≤ 10000000 → accepted entry ≡ rowOutcome bench torque t place
+            pub entry-given : entry ≤ 10000000 → accepted entry ≡ rowOutcome torque row place
             unfolding rowCheck rowOutcome
-            entry-given h = rw (le-leb _ _ input, le-leb _ _ output, near, loss, ← e, le-leb _ _ h)
+            entry-given h = rw (le-leb _ _ input, outputs-accepted (row .outputs) 4 outputs, near, loss, ← e, le-leb _ _ h)
 
 -- what is refused of a row is refused by its check
-pub check-refused : (bench : Bench) (torque : ℕ) (t : Torques) (place : ℕ) (told : Told) → refused told ≡ rowOutcome bench torque t place
-    → placed (λ offset. place + offset) (rowCheck bench torque t) ≡ refused told
+pub check-refused : (torque : ℕ) (row : Row) (place : ℕ) (told : Told) → refused told ≡ rowOutcome torque row place
+    → placed (λ offset. place + offset) (rowCheck torque row) ≡ refused told
 unfolding rowOutcome
-check-refused bench torque t place told e =
-    ⊎-elim (λ h. h) (λ h. never told _ (sym (h .2))) (then-refused (placed (λ offset. place + offset) (rowCheck bench torque t)) _ told (sym e))
+check-refused torque row place told e =
+    ⊎-elim (λ h. h) (λ h. never told _ (sym (h .2))) (then-refused (placed (λ offset. place + offset) (rowCheck torque row)) _ told (sym e))
 
 -- the entry of a row, from its loss uncertainty
-pub entry-is : (bench : Bench) (t : Torques) (u e : ℕ) → u ≡ rowUncertainty (rowOf bench t) → e ≡ entryOf (bench .ratio) (t .input) (t .output) u → e ≡ measuredEntry (rowOf bench t)
+pub entry-is : (row : Row) (u e : ℕ) → u ≡ rowUncertainty row → e ≡ entryOf (row .ratio) (row .input) (output row) u → e ≡ measuredEntry row
 unfolding measuredEntry
-entry-is bench t u e h k = let z : t .output + 0 ≡ t .output = omega arith in k ∙ rw (z, h)
+entry-is row u e h k = k ∙ rw h

@@ -10,10 +10,10 @@ ghost use lib.ListN.{length};
 ghost use Rattle.refusal.specs.Outcome.{firstRefusal};
 ghost use Rattle.refusal.specs.Table.{answerSays};
 ghost use Rattle.grid.specs.Lists.{tabulate, joined};
-ghost use Rattle.fields.specs.Bytes.{numberOf, between};
-ghost use Rattle.loss.specs.Measured.{lossIsUnderZero, rowUncertainty, fixedParts};
-ghost use Rattle.rows.specs.Rows.{nearAxis, rowOf};
-ghost use Rattle.rows.specs.Answers.{benchOf, BenchRight, torquesPair, rowEntryOf, rowOutcome, partCheck, partEntry, speedPartCheck, speedPartEntries, Filled};
+ghost use Rattle.component.specs.Component.{rowLength};
+ghost use Rattle.loss.specs.Measured.{lossIsUnderZero, sensorSteps, rowUncertainty};
+ghost use Rattle.rows.specs.Rows.{torqueAt, rowAt, rowStart, nearAxis};
+ghost use Rattle.rows.specs.Answers.{benchOf, partsOf, benchWith, PartsRight, BenchRight, rowOf, rightTorqueAt, NoRightTorque, rowEntryOf, rowOutcome, partCheck, partEntry, speedPartCheck, speedPartEntries, Filled};
 
 // A sensor with the parts of its uncertainty that do not depend on the torque.
 pub struct SensorParts {
@@ -21,45 +21,56 @@ pub struct SensorParts {
     pub fixed: FixedParts,
 }
 
-// What all rows share.
+// What all rows share. There are as many sensors as the kind's number: of two the right one means nothing, of three output is the left one.
 pub struct Bench {
     pub ratio: u16,
+    pub sensors: usize,
     pub input: SensorParts,
     pub output: SensorParts,
+    pub right: SensorParts,
 }
 
 // A sensor with its fixed parts.
 fn sensor_parts(sensor: Sensor) -> SensorParts
-    ensures { λ r. ⌜ (r .sensor ≡ sensor) × (r .fixed ≡ fixedParts sensor) ⌝ }
+    ensures { λ r. ⌜ r ≡ partsOf sensor ⌝ }
 {
     let fixed = loss::fixed_parts(sensor);
     SensorParts { sensor, fixed }
 }
 
 // What all rows of measured data share.
-pub fn bench_of(ratio: u16, input: Sensor, output: Sensor) -> Bench
-    ensures { λ r. ⌜
-        (r .ratio ≡ ratio)
-        × (r .input .sensor ≡ input)
-        × (r .input .fixed ≡ fixedParts input)
-        × (r .output .sensor ≡ output)
-        × (r .output .fixed ≡ fixedParts output) ⌝ }
+pub fn bench_of(kind: u16, ratio: u16, input: Sensor, output: Sensor, right: Sensor) -> Bench
+    ensures { λ r. ⌜ r ≡ benchWith kind ratio input output right ⌝ }
 {
     let input_parts = sensor_parts(input);
     let output_parts = sensor_parts(output);
+    let right_parts = sensor_parts(right);
     Bench {
         ratio,
+        sensors: kind as usize,
         input: input_parts,
         output: output_parts,
+        right: right_parts,
     }
 }
 
 // The torque at a place of the rows' bytes.
 fn torque_at(rows: &[u8], at: usize) -> u32
     requires { ⌜ at + 4 ≤ length (now rows) ⌝ }
-    ensures { λ r. ⌜ r ≡ numberOf (between (now (rows .entry)) at (at + 4)) ⌝ }
+    ensures { λ r. ⌜ r ≡ torqueAt (now (rows .entry)) at ⌝ }
 {
     fields::four(rows[at], rows[at + 1], rows[at + 2], rows[at + 3])
+}
+
+// The right torque of the row that starts at a place, and 0 where there is no right sensor.
+fn right_torque_at(rows: &[u8], at: usize, sensors: usize) -> u32
+    requires { ⌜ (2 ≤ sensors) × (at + rowLength sensors ≤ length (now rows)) ⌝ }
+    ensures { λ r. ⌜ r ≡ rightTorqueAt (now (rows .entry)) at sensors ⌝ }
+{
+    if sensors == 2 {
+        return 0;
+    }
+    torque_at(rows, at + 8)
 }
 
 // Whether an output torque, in hundredths, is at most 5.00 Nm from its axis torque.
@@ -82,20 +93,30 @@ fn under_zero(ratio: u16, input: u32, output: u32) -> bool
     }
 }
 
-// The loss uncertainty of a row, in grains.
-fn uncertainty(bench: Bench, input: u32, output: u32) -> u32
-    requires { ⌜ BenchRight bench × (input ≤ 5000000) × (output ≤ 5000000) ⌝ }
-    ensures { λ r. ⌜ r ≡ rowUncertainty (rowOf (benchOf bench) (torquesPair input output)) ⌝ }
+// The uncertainty of a sensor at its torque, in grains.
+fn sensor_uncertainty(parts: SensorParts, torque: u32) -> u32
+    requires { ⌜ PartsRight parts × (torque ≤ 5000000) ⌝ }
+    ensures { λ r. ⌜ (r ≡ sensorSteps (parts .sensor) torque .uncertainty) × (r ≤ 43000000) ⌝ }
 {
-    let input_parts = bench.input;
-    let output_parts = bench.output;
-    let at_input = loss::sensor_steps(input_parts.sensor, input_parts.fixed, input);
-    let at_output = loss::sensor_steps(output_parts.sensor, output_parts.fixed, output);
-    let parts = [
-        loss::scaled_uncertainty(bench.ratio, at_input.uncertainty),
-        at_output.uncertainty as u64,
-    ];
-    loss::loss_uncertainty(&parts) as u32
+    let steps = loss::sensor_steps(parts.sensor, parts.fixed, torque);
+    steps.uncertainty
+}
+
+// The loss uncertainty of a row, in grains.
+fn uncertainty(bench: Bench, input: u32, output: u32, right: u32) -> u32
+    requires { ⌜ BenchRight bench × (input ≤ 5000000) × (output ≤ 5000000) × (right ≤ 5000000) ⌝ }
+    ensures { λ r. ⌜ r ≡ rowUncertainty (rowOf bench input output right) ⌝ }
+{
+    let of_input = sensor_uncertainty(bench.input, input);
+    let of_output = sensor_uncertainty(bench.output, output) as u64;
+    let at_wheel = loss::scaled_uncertainty(bench.ratio, of_input);
+    if bench.sensors == 3 {
+        let of_right = sensor_uncertainty(bench.right, right) as u64;
+        let all = [at_wheel, of_output, of_right];
+        return loss::loss_uncertainty(&all) as u32;
+    }
+    let both = [at_wheel, of_output];
+    loss::loss_uncertainty(&both) as u32
 }
 
 // The entry of a row, or its refusal.
@@ -104,35 +125,58 @@ enum RowEntry {
     Refused(Refusal),
 }
 
-// A row whose first byte is at a place of the data: 7 for the input, 7 for the output, then 8, 9 and 10.
-fn row_entry(bench: Bench, torque: u16, input: u32, output: u32, place: usize) -> RowEntry
-    requires { ⌜ BenchRight bench × (place + 8 < 2 ^ 64) ⌝ }
-    ensures { λ r. ⌜ rowEntryOf r ≡ rowOutcome (benchOf bench) torque (torquesPair input output) place ⌝ }
+// A row whose first byte is at a place of the data: 7 for the input and for each output, then 8 and 9 for the outputs together, and 10.
+fn row_entry(
+    bench: Bench,
+    torque: u16,
+    input: u32,
+    output: u32,
+    right: u32,
+    place: usize,
+) -> RowEntry
+    requires { ⌜ BenchRight bench × NoRightTorque bench right × (place + 8 < 2 ^ 64) ⌝ }
+    ensures { λ r. ⌜ rowEntryOf r ≡ rowOutcome torque (rowOf bench input output right) place ⌝ }
 {
     let input_parts = bench.input;
     let output_parts = bench.output;
+    let right_parts = bench.right;
     if 100 * (input_parts.sensor.nominal as u32) < input {
         return RowEntry::Refused(Refusal::AboveNominal(place));
     }
     if 100 * (output_parts.sensor.nominal as u32) < output {
         return RowEntry::Refused(Refusal::AboveNominal(place + 4));
     }
-    if !near_axis(torque, output) {
+    if 100 * (right_parts.sensor.nominal as u32) < right {
+        return RowEntry::Refused(Refusal::AboveNominal(place + 8));
+    }
+    let together = output + right;
+    if !near_axis(torque, together) {
         return RowEntry::Refused(Refusal::OffAxisTorque(place + 4));
     }
-    if under_zero(bench.ratio, input, output) {
+    if under_zero(bench.ratio, input, together) {
         return RowEntry::Refused(Refusal::NegativeLoss(place));
     }
     let entry = loss::measured_entry(
         bench.ratio,
         input,
-        output,
-        uncertainty(bench, input, output),
+        together,
+        uncertainty(bench, input, output, right),
     );
     if 10_000_000 < entry {
         return RowEntry::Refused(Refusal::EntryTooLarge(place));
     }
     RowEntry::Entry(entry as u32)
+}
+
+// The row that starts at a place of the rows' bytes.
+fn row_at(rows: &[u8], at: usize, bench: Bench, torque: u16, place: usize) -> RowEntry
+    requires { ⌜ BenchRight bench × (at + rowLength (bench .sensors) ≤ length (now rows)) × (place + 8 < 2 ^ 64) ⌝ }
+    ensures { λ r. ⌜ rowEntryOf r ≡ rowOutcome torque (rowAt (benchOf bench) (now (rows .entry)) at) place ⌝ }
+{
+    let input = torque_at(rows, at);
+    let output = torque_at(rows, at + 4);
+    let right = right_torque_at(rows, at, bench.sensors);
+    row_entry(bench, torque, input, output, right, place)
 }
 
 // The rows of one speed: their entries are written to the first places of what is lent.
@@ -146,7 +190,7 @@ fn fill_speed(
 ) -> Answer
     requires { ⌜
         BenchRight bench
-        × (length (now torques) * 8 ≤ length (now rows))
+        × (rowStart (benchOf bench) (length (now torques)) ≤ length (now rows))
         × (length (now torques) ≤ length (now entries))
         × (place + length (now rows) < 2 ^ 64) ⌝ }
     ensures { λ r. ⌜
@@ -155,12 +199,11 @@ fn fill_speed(
         Filled r (now (entries .exit)) (tabulate (partEntry (benchOf bench) (now (rows .entry))) (length (now (torques .entry))))
         (now (entries .entry)) ⌝ }
 {
+    let length = 4 * bench.sensors;
     let mut i: usize = 0;
     while i < torques.len() {
-        let at = 8 * i;
-        let input = torque_at(rows, at);
-        let output = torque_at(rows, at + 4);
-        match row_entry(bench, torques[i], input, output, place + at) {
+        let at = length * i;
+        match row_at(rows, at, bench, torques[i], place + at) {
             RowEntry::Refused(x) => {
                 return Answer::Refused(x);
             }
@@ -184,7 +227,7 @@ pub fn fill_rows(
 ) -> Answer
     requires { ⌜
         BenchRight bench
-        × (8 * (speeds * length (now torques)) ≤ length (now rows))
+        × (rowStart (benchOf bench) (speeds * length (now torques)) ≤ length (now rows))
         × (speeds * length (now torques) ≤ length (now entries))
         × (place + length (now rows) < 2 ^ 64) ⌝ }
     ensures { λ r. ⌜ answerSays r ≡ firstRefusal (speedPartCheck (benchOf bench) (now (torques .entry)) (now (rows .entry)) place) 0 speeds ⌝ }
@@ -192,10 +235,11 @@ pub fn fill_rows(
         Filled r (now (entries .exit))
         (joined (speedPartEntries (benchOf bench) (now (torques .entry)) (now (rows .entry))) speeds) (now (entries .entry)) ⌝ }
 {
+    let length = 4 * bench.sensors;
     let mut first: usize = 0;
     let mut speed: usize = 0;
     while speed < speeds {
-        let at = 8 * first;
+        let at = length * first;
         match fill_speed(
             &rows[at..],
             place + at,

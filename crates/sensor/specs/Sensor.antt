@@ -1,4 +1,4 @@
--- Document 01, "Component data", tags 6 and 7: a sensor's nine numbers.
+-- Document 01, "Component data", tags 6 and 7, and document 02, C-11, tag 9: a sensor's nine numbers.
 use Prim.Native.Nat.{ℕ}
 use mathlib.Core.List.{List, [], _∷_}
 use lib.ListN.{length, getD}

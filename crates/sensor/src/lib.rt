@@ -1,4 +1,4 @@
-// The torque sensors of tags 6 and 7: their nine numbers and ranges.
+// The torque sensors of tags 6, 7 and 9: their nine numbers and ranges.
 use grid::Range;
 ghost use mathlib.Core.Path.{_≡_};
 ghost use Prim.Native.Nat.{_<_};

@@ -94,18 +94,21 @@ fn write_axes(grid: Grid) {
     write_numbers(b" torques", &torques.numbers, torques.count);
 }
 
-fn write_measured(input: Sensor, output: Sensor, start: usize, end: usize) {
-    write_sensor(b" input", input);
-    write_sensor(b" output", output);
-    write_number(b" rows ", start as u64);
-    write_number(b" to ", end as u64);
+fn write_measured(c: Component) {
+    write_sensor(b" input", c.input);
+    write_sensor(b" output", c.output);
+    if c.kind == 3 {
+        write_sensor(b" right", c.right);
+    }
+    write_number(b" rows ", c.rows.start as u64);
+    write_number(b" to ", c.rows.end as u64);
 }
 
 fn write_component(c: Component) {
     write_axle(c.kind, c.line, c.ratio);
     write_axes(c.grid);
-    if c.kind == 2 {
-        write_measured(c.input, c.output, c.rows.start, c.rows.end);
+    if c.kind != 1 {
+        write_measured(c);
     }
     end_line();
 }

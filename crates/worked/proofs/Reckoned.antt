@@ -14,7 +14,7 @@ use Rattle.component.specs.Component.{component, axleFields, axesFields, kindFi
 use Rattle.loss.specs.Rounding.{roundUp, partAbove, underZero}
 use Rattle.loss.specs.Standard.{standardLoss, standardEntry}
 use Rattle.loss.specs.Measured.{grainsUp, temperatureOnSensitivity, temperatureOnZero, calibration, parasiticLoads, sensorUncertainty, sensorSteps, scaledUncertainty, readingUncertainty, lossUncertainty, measuredLoss, lossIsUnderZero, allowance, entryOf, readings, rowUncertainty, measuredEntry}
-use Rattle.rows.specs.Rows.{nearAxis, rowCheck}
+use Rattle.rows.specs.Rows.{nearAxis, outputsCheck, rowCheck}
 use Rattle.map.specs.Build.{entry, entryOfKind, check, checkOfKind, speedCheck, rowsCheck, speedEntries, entries, mapOf, build}
 use Rattle.listing.specs.Listing.{header, line, row, rows, listing, refusalLine}
 use Rattle.buffer.specs.Digits.{digitCountBy, digitCount, decimal, hundredths}
@@ -26,5 +26,5 @@ use Rattle.lookup.specs.Nearest.{nearestIndex, nearestNumber, nearestAnswer}
 use Rattle.worked.specs.Cases.{Hold, cases}
 
 pub hold : Hold cases
-unfolding component axleFields axesFields kindFields measuredFields head field number axis pairs within rises axisNumber axisNumbers firstStep firstRefusal build mapOf rowsCheck speedCheck check checkOfKind entries speedEntries entry entryOfKind tabulate joined standardEntry standardLoss roundUp partAbove underZero sensorUncertainty sensorSteps grainsUp temperatureOnSensitivity temperatureOnZero calibration parasiticLoads scaledUncertainty readingUncertainty lossUncertainty rowUncertainty readings measuredEntry entryOf allowance measuredLoss lossIsUnderZero nearAxis rowCheck report reportOf digitCountBy digitCount decimal hundredths header line row rows listing refusalLine lossAnswer lossAt cellOf neighbour lastUpTo ceiling sum weight share corners index nearestAnswer nearestNumber nearestIndex validMap validEntries validGrid validSpeeds validTorques validNumbers every _less_over_ _over_ whole _⊕_ _⊖_ _⊗_ larger quotientUp quotientDown rootUp
+unfolding component axleFields axesFields kindFields measuredFields head field number axis pairs within rises axisNumber axisNumbers firstStep firstRefusal build mapOf rowsCheck speedCheck check checkOfKind entries speedEntries entry entryOfKind tabulate joined standardEntry standardLoss roundUp partAbove underZero sensorUncertainty sensorSteps grainsUp temperatureOnSensitivity temperatureOnZero calibration parasiticLoads scaledUncertainty readingUncertainty lossUncertainty rowUncertainty readings measuredEntry entryOf allowance measuredLoss lossIsUnderZero nearAxis outputsCheck rowCheck report reportOf digitCountBy digitCount decimal hundredths header line row rows listing refusalLine lossAnswer lossAt cellOf neighbour lastUpTo ceiling sum weight share corners index nearestAnswer nearestNumber nearestIndex validMap validEntries validGrid validSpeeds validTorques validNumbers every _less_over_ _over_ whole _⊕_ _⊖_ _⊗_ larger quotientUp quotientDown rootUp
 hold = (refl, (refl, (refl, (refl, (refl, (refl, (refl, (refl, (refl, (refl, (refl, (refl, (refl, (refl, (refl, (refl, (refl, (refl, (refl, (refl, (refl, tt)))))))))))))))))))))

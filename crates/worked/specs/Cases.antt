@@ -8,8 +8,8 @@ use Rattle.grid.specs.Parts.{gridOf}
 use Rattle.grid.specs.declared.Grid.{Grid}
 use Rattle.sensor.specs.declared.Sensor.{Sensor}
 use Rattle.loss.specs.Standard.{standardEntry}
-use Rattle.loss.specs.Measured.{calibration, sensorUncertainty, sensorSteps, rowUncertainty, measuredEntry}
-use Rattle.rows.specs.Rows.{Bench, Torques, rowOf, rowCheck}
+use Rattle.loss.specs.Measured.{calibration, sensorUncertainty, sensorSteps, Row, rowUncertainty, measuredEntry}
+use Rattle.rows.specs.Rows.{rowCheck}
 use Rattle.map.specs.Build.{LossMap, entries, build}
 use Rattle.buffer.specs.Bytes.{bytes}
 use Rattle.report.specs.Report.{report}
@@ -49,13 +49,14 @@ point speed torque = record { speed = speed; torque = torque }
 abbrev pub sensor : ℕ → Sensor
 sensor N = record { nominal = N; sensitivity = 0; zero = 0; calibration = 100; advancement = 1000; parasitic = 0; share = 0; difference = 0; span = 10 }
 
--- ratio 3.000; nominal torques 10,000 Nm for the input and 40,000 Nm for the output
-abbrev pub bench : Bench
-bench = record { ratio = 3000; input = sensor 10000; output = sensor 40000 }
-
--- "Output 3,000.00", at the axis torque 3,000
-abbrev pub torques : ℕ → Torques
-torques input = record { input = input; output = 300000 }
+-- ratio 3.000; nominal torques 10,000 Nm for the input and 40,000 Nm for the output; "Output 3,000.00", at the axis torque 3,000
+abbrev pub measuredRow : ℕ → Row
+measuredRow input = record {
+  ratio = 3000;
+  sensor = sensor 10000;
+  input = input;
+  outputs = record { sensor = sensor 40000; torque = 300000 } ∷ [];
+}
 
 abbrev pub cases : List Case
 cases =
@@ -77,12 +78,12 @@ cases =
     -- U of both sensors and the loss uncertainty; then input 1,100.00, 1,020.00, 1,000.00 and 999.99
     ∷ number-case (sensorSteps (sensor 10000) 110000 .uncertainty) 20000
     ∷ number-case (sensorSteps (sensor 40000) 300000 .uncertainty) 80000
-    ∷ number-case (rowUncertainty (rowOf bench (torques 110000))) 100000
-    ∷ number-case (measuredEntry (rowOf bench (torques 110000))) 30000
-    ∷ number-case (measuredEntry (rowOf bench (torques 102000))) 6700
-    ∷ number-case (measuredEntry (rowOf bench (torques 100000))) 900
-    ∷ row-case (rowCheck bench 3000 (torques 100000)) (accepted tt)
-    ∷ row-case (rowCheck bench 3000 (torques 99999)) (refuse 9 0)
+    ∷ number-case (rowUncertainty (measuredRow 110000)) 100000
+    ∷ number-case (measuredEntry (measuredRow 110000)) 30000
+    ∷ number-case (measuredEntry (measuredRow 102000)) 6700
+    ∷ number-case (measuredEntry (measuredRow 100000)) 900
+    ∷ row-case (rowCheck 3000 (measuredRow 100000)) (accepted tt)
+    ∷ row-case (rowCheck 3000 (measuredRow 99999)) (refuse 9 0)
     -- speeds 100 and 200: 150.0 rpm and 150.1 rpm
     ∷ nearest-case (nearestAnswer (gridWith 0 1000) (point 1500 0)) (accepted (record { speed = 100; torque = 0 }))
     ∷ nearest-case (nearestAnswer (gridWith 0 1000) (point 1501 0)) (accepted (record { speed = 200; torque = 0 }))

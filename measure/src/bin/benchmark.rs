@@ -58,31 +58,43 @@ fn times(ways: &mut [Way]) -> Vec<f64> {
     best
 }
 
-/// What the library may take, as a share of the others' times.
+/// What the library may take, as a share of other times.
 #[derive(Clone, Copy)]
 struct Target {
     yardstick: Option<f64>,
     doubles: Option<f64>,
+    /// Of its own build of kind 2.
+    kind_2: Option<f64>,
 }
 
 const NO_TARGET: Target = Target {
     yardstick: None,
     doubles: None,
+    kind_2: None,
 };
 
 fn of_yardstick(share: f64) -> Target {
     Target {
         yardstick: Some(share),
-        doubles: None,
+        ..NO_TARGET
     }
 }
 
+/// The library's time as a share of the others.
+struct Ratios {
+    yardstick: f64,
+    doubles: f64,
+    kind_2: f64,
+}
+
 impl Target {
-    /// Each target in words, with whether it is reached.
-    fn verdict(self, to_yardstick: f64, to_doubles: f64) -> String {
+    /// Each target in words, with whether it is reached. The last ratio has no column and is told here.
+    fn verdict(self, ratios: &Ratios) -> String {
+        let kind_2 = format!("the library's measured build ({:.2})", ratios.kind_2);
         let told = [
-            (self.yardstick, to_yardstick, "the yardstick"),
-            (self.doubles, to_doubles, "doubles"),
+            (self.yardstick, ratios.yardstick, "the yardstick"),
+            (self.doubles, ratios.doubles, "doubles"),
+            (self.kind_2, ratios.kind_2, &kind_2),
         ]
         .into_iter()
         .filter_map(|(share, ratio, name)| {
@@ -115,17 +127,21 @@ fn report(what: &str, target: Target, mut ways: Vec<Way>) {
     let yardstick = of("Rust")
         .unwrap_or(infinite)
         .min(of("reference").unwrap_or(infinite));
-    let (to_yardstick, to_doubles) = (
-        best[0] / yardstick,
-        best[0] / of("doubles").unwrap_or(infinite),
-    );
+    let ratio = |name: &str| best[0] / of(name).unwrap_or(infinite);
+    let ratios = Ratios {
+        yardstick: best[0] / yardstick,
+        doubles: ratio("doubles"),
+        kind_2: ratio("library, kind 2"),
+    };
     println!(
-        "| {what} | {} | {} | {} | {} | {to_yardstick:.2} | {to_doubles:.2} | {} |",
+        "| {what} | {} | {} | {} | {} | {:.2} | {:.2} | {} |",
         cell("library"),
         cell("Rust"),
         cell("reference"),
         cell("doubles"),
-        target.verdict(to_yardstick, to_doubles)
+        ratios.yardstick,
+        ratios.doubles,
+        target.verdict(&ratios)
     );
 }
 
@@ -141,11 +157,20 @@ struct Subject {
     questions: Vec<Question>,
 }
 
+/// The input sensor, the output sensor or the left one, and the right one.
+const SENSORS: [[u16; 9]; 3] = [
+    [40_000, 120, 90, 400, 1_500, 150, 600, 85, 45],
+    [30_000, 110, 100, 300, 1_200, 140, 500, 70, 40],
+    [25_000, 130, 80, 350, 1_300, 160, 550, 75, 35],
+];
+
 /// Data as a bench gives it: even axes, losses of some hundredths of the torque, good sensors. With large losses the map has entries near the largest.
+/// In kind 3 the two half-shafts share the output torque of kind 2.
 fn bench_data(kind: u8, speed_count: u16, torque_count: u16, large_losses: bool) -> Vec<u8> {
     let speeds: Vec<u16> = (1..=speed_count).map(|i| 40 * i).collect();
     let torques: Vec<u16> = (1..=torque_count).map(|i| 400 * i).collect();
-    let mut source = Source::new(3, 3);
+    let sensor_count = usize::from(kind);
+    let (mut source, mut shares) = (Source::new(3, 3), Source::new(3, 4));
     let mut rows = Vec::new();
     for _ in &speeds {
         for torque in &torques {
@@ -156,8 +181,12 @@ fn bench_data(kind: u8, speed_count: u16, torque_count: u16, large_losses: bool)
             let loss = output * source.between(15, 60) / 1_000 + source.between(5_000, 20_000);
             let loss = loss + if large_losses { 9_300_000 } else { 0 };
             let input = (output + loss) * 1_000 / 3_700;
-            rows.extend((input as u32).to_be_bytes());
-            rows.extend((output as u32).to_be_bytes());
+            let right = match kind {
+                3 => output * shares.between(350, 650) / 1_000,
+                _ => 0,
+            };
+            let row = [input, output - right, right].map(|torque| torque as u32);
+            rows.push(row[..sensor_count].to_vec());
         }
     }
     let mut fields = vec![
@@ -167,19 +196,10 @@ fn bench_data(kind: u8, speed_count: u16, torque_count: u16, large_losses: bool)
         Field::of_numbers(4, &speeds),
         Field::of_numbers(5, &torques),
     ];
-    if kind == 2 {
-        fields.push(Field::of_numbers(
-            6,
-            &[40_000, 120, 90, 400, 1_500, 150, 600, 85, 45],
-        ));
-        fields.push(Field::of_numbers(
-            7,
-            &[30_000, 110, 100, 300, 1_200, 140, 500, 70, 40],
-        ));
-        fields.push(Field::new(8, rows));
+    if kind > 1 {
+        fields.extend(Field::of_measurement(kind, &SENSORS[..sensor_count], &rows));
     }
-    let rest = Vec::new();
-    Data { fields, rest }.bytes()
+    Data::of(fields).bytes()
 }
 
 fn subject(kind: u8, speed_count: u16, torque_count: u16, large_losses: bool) -> Subject {
@@ -212,6 +232,9 @@ fn subject(kind: u8, speed_count: u16, torque_count: u16, large_losses: bool) ->
 /// The four agree on what is measured, but for doubles, which may be off.
 fn check(subject: &Subject) {
     assert_eq!(plain::build(&subject.data).as_ref(), Some(&subject.entries));
+    let mut built = vec![0; subject.entries.len()];
+    assert_eq!(axle::build(&subject.data, &mut built), Ok(subject.grid));
+    assert_eq!(built, subject.entries);
     for question in &subject.questions {
         let Question { speed, torque } = *question;
         let theirs = lookup::loss(&subject.lent, speed, torque).expect("within the map");
@@ -259,26 +282,37 @@ fn measure_roots() {
     );
 }
 
+/// The ways to build a subject's map; the library writes to these entries.
+fn build_ways<'work>(subject: &'work Subject, entries: &'work mut [u32]) -> Vec<Way<'work>> {
+    vec![
+        way("library", 1, || {
+            let _ = black_box(axle::build(black_box(&subject.data), entries));
+        }),
+        way("Rust", 1, || {
+            black_box(plain::build(black_box(&subject.data)));
+        }),
+        way("reference", 1, || {
+            let _ = black_box(map::build(black_box(&subject.data), 2_048));
+        }),
+        way("doubles", 1, || {
+            black_box(doubles::build(black_box(&subject.data)));
+        }),
+    ]
+}
+
 fn measure_build(what: &str, target: Target, subject: &Subject) {
     let mut entries = vec![0; 2_048];
-    report(
-        what,
-        target,
-        vec![
-            way("library", 1, || {
-                let _ = black_box(axle::build(black_box(&subject.data), &mut entries));
-            }),
-            way("Rust", 1, || {
-                black_box(plain::build(black_box(&subject.data)));
-            }),
-            way("reference", 1, || {
-                let _ = black_box(map::build(black_box(&subject.data), 2_048));
-            }),
-            way("doubles", 1, || {
-                black_box(doubles::build(black_box(&subject.data)));
-            }),
-        ],
-    );
+    report(what, target, build_ways(subject, &mut entries));
+}
+
+/// A build of kind 3, with the library's build of kind 2 in the same rounds.
+fn measure_half_shafts(what: &str, target: Target, subject: &Subject, kind_2: &Subject) {
+    let (mut entries, mut other_entries) = (vec![0; 2_048], vec![0; 2_048]);
+    let mut ways = build_ways(subject, &mut entries);
+    ways.push(way("library, kind 2", 1, || {
+        let _ = black_box(axle::build(black_box(&kind_2.data), &mut other_entries));
+    }));
+    report(what, target, ways);
 }
 
 impl Subject {
@@ -418,10 +452,11 @@ fn wrong_doubles(subject: &Subject) -> usize {
 /// What has a target, and what is measured beside it.
 fn measure_all() {
     let measured = subject(2, 32, 64, false);
+    let half_shafts = subject(3, 32, 64, false);
     let standard = subject(1, 32, 64, false);
     let small = subject(2, 2, 2, false);
     let large = subject(2, 32, 64, true);
-    for each in [&measured, &standard, &small, &large] {
+    for each in [&measured, &half_shafts, &standard, &small, &large] {
         check(each);
     }
     println!(
@@ -432,8 +467,15 @@ fn measure_all() {
     let target = Target {
         yardstick: Some(0.75),
         doubles: Some(1.0),
+        ..NO_TARGET
     };
     measure_build("build, measured, 32 x 64", target, &measured);
+    let target = Target {
+        kind_2: Some(1.5),
+        ..NO_TARGET
+    };
+    let what = "build, half shafts, 32 x 64";
+    measure_half_shafts(what, target, &half_shafts, &measured);
     measure_build("build, standard, 32 x 64", NO_TARGET, &standard);
     measure_loss("loss at a point, 32 x 64", of_yardstick(0.7), &measured);
     let what = "the same, an entry of 83,886.08 Nm or more";

@@ -1,7 +1,7 @@
 //! The trace of one entry: document 01, "Standard loss" or "Measured loss", with the numbers put in.
 
 use super::{Lines, NoTrace};
-use crate::component::{self, row_place, Component, Kind, Row, Sensor, ROW_LENGTH};
+use crate::component::{self, output_place, Component, Kind, Measured, Row, Sensor};
 use crate::listing::{self, MOST_ENTRIES};
 use crate::loss::{self, Fraction, MeasuredSteps, SensorSteps};
 use crate::map::{self, entry_index};
@@ -13,6 +13,55 @@ struct Traced<'data> {
     component: &'data Component,
     speed_index: usize,
     torque_index: usize,
+}
+
+/// A sensor as the lines name it.
+struct Side {
+    /// The first word of its lines.
+    label: &'static str,
+    name: &'static str,
+    tag: u8,
+    /// What its part of the loss uncertainty is called.
+    part: &'static str,
+}
+
+const fn side(label: &'static str, name: &'static str, tag: u8, part: &'static str) -> Side {
+    Side {
+        label,
+        name,
+        tag,
+        part,
+    }
+}
+
+const INPUT: Side = side("input", "input", 6, "V");
+
+/// A measured kind as the lines name it, with its output sensors.
+struct MeasuredKind {
+    name: &'static str,
+    outputs: &'static [Side],
+}
+
+const ONE_OUTPUT: MeasuredKind = MeasuredKind {
+    name: "measured",
+    outputs: &[side("output", "output", 7, "W")],
+};
+const LEFT_AND_RIGHT: MeasuredKind = MeasuredKind {
+    name: "measured, left and right",
+    outputs: &[
+        side("left", "left output", 7, "W"),
+        side("right", "right output", 9, "W'"),
+    ],
+};
+
+impl MeasuredKind {
+    fn of(measured: &Measured) -> &'static MeasuredKind {
+        if measured.outputs.len() == 1 {
+            &ONE_OUTPUT
+        } else {
+            &LEFT_AND_RIGHT
+        }
+    }
 }
 
 /// The trace of the entry at a speed and a torque of the axes, in rpm and Nm.
@@ -30,15 +79,10 @@ pub fn entry(data: &[u8], speed: u32, torque: u32) -> Result<String, NoTrace> {
     traced.add_grid_point(&mut lines);
     let entry = match &component.kind {
         Kind::Standard => traced.add_standard(&mut lines),
-        Kind::Measured {
-            input,
-            output,
-            rows,
-            rows_start,
-        } => {
-            let row = &rows[traced.index()];
-            traced.add_row(&mut lines, row, *rows_start);
-            traced.add_measured(&mut lines, input, output, row)
+        Kind::Measured(measured) => {
+            let row = &measured.rows[traced.index()];
+            traced.add_row(&mut lines, measured, row);
+            traced.add_measured(&mut lines, measured, row)
         }
     };
     traced.add_entry(&mut lines, entry);
@@ -78,11 +122,13 @@ impl Traced<'_> {
     }
 
     fn add_grid_point(&self, lines: &mut Lines) {
-        let kind = match self.component.kind {
-            Kind::Standard => "1, standard",
-            Kind::Measured { .. } => "2, measured",
+        let kind = &self.component.kind;
+        let what = match kind {
+            Kind::Standard => "standard",
+            Kind::Measured(measured) => MeasuredKind::of(measured).name,
         };
-        let data = format!("{} bytes, kind {kind}", count(self.data.len()));
+        let bytes = count(self.data.len());
+        let data = format!("{bytes} bytes, kind {}, {what}", kind.number());
         lines.add("data", data);
         let ratio = self.bytes(self.body(3), 2);
         lines.add("ratio", format!("{}, {ratio}", self.ratio()));
@@ -128,77 +174,102 @@ impl Traced<'_> {
         exact.rounded_up()
     }
 
-    fn add_row(&self, lines: &mut Lines, row: &Row, rows_start: usize) {
+    fn add_row(&self, lines: &mut Lines, measured: &Measured, row: &Row) {
         let (speed_index, torque_index) = (self.speed_index, self.torque_index);
         let torque_count = self.component.torques.len();
         let index = self.index();
-        let place = row_place(rows_start, index);
+        let place = measured.row_place(index);
+        let length = measured.row_length();
         let index = count(index);
         let number = format!("{index} = {speed_index} × {torque_count} + {torque_index}");
-        let start = format!("{} + {ROW_LENGTH} × {index}", count(rows_start));
-        let bytes = hexadecimal(&self.data[place..place + ROW_LENGTH]);
+        let start = format!("{} + {length} × {index}", count(measured.rows_start));
+        let bytes = hexadecimal(&self.data[place..place + length]);
         let place_text = format!("at byte {start} = {}", count(place));
         lines.add(
             "row",
             format!("{number} counted from 0, {place_text}: {bytes}"),
         );
-        for (name, start, torque) in [
-            ("input torque", place, row.input),
-            ("output torque", place + 4, row.output),
-        ] {
-            let torque = u128::from(torque);
-            let (hundredths, whole) = (grouped(torque), decimal(torque, 2));
-            let bytes = self.bytes(start, 4);
-            lines.add(
-                name,
-                format!("{hundredths} hundredths = {whole} Nm, {bytes}"),
-            );
+        self.add_torque(lines, "input", row.input, place);
+        let outputs = MeasuredKind::of(measured).outputs;
+        for (index, (output, torque)) in outputs.iter().zip(&row.outputs).enumerate() {
+            self.add_torque(lines, output.label, *torque, output_place(place, index));
+        }
+        if outputs.len() > 1 {
+            add_output_sum(lines, row);
         }
     }
 
-    fn add_measured(&self, lines: &mut Lines, input: &Sensor, output: &Sensor, row: &Row) -> u128 {
-        let steps = loss::measured_steps(self.component.ratio, input, output, row)
+    /// A torque of the row.
+    fn add_torque(&self, lines: &mut Lines, label: &str, torque: u32, place: usize) {
+        let torque = torque.into();
+        let (hundredths, whole) = (grouped(torque), decimal(torque, 2));
+        let bytes = self.bytes(place, 4);
+        lines.add(
+            &format!("{label} torque"),
+            format!("{hundredths} hundredths = {whole} Nm, {bytes}"),
+        );
+    }
+
+    fn add_measured(&self, lines: &mut Lines, measured: &Measured, row: &Row) -> u128 {
+        let steps = loss::measured_steps(self.component.ratio, measured, row)
             .expect("an accepted row has no loss under zero");
-        for (side, tag, sensor, torque, sensor_steps) in [
-            ("input", 6, input, row.input, &steps.input),
-            ("output", 7, output, row.output, &steps.output),
-        ] {
-            self.add_sensor(lines, side, tag, sensor);
-            let torque = grouped(torque.into());
-            lines.add("C", format!("{torque} hundredths, the {side} torque"));
-            add_parts(lines, sensor, &torque, sensor_steps);
-            add_sensor_uncertainty(lines, sensor_steps);
+        self.add_sensor(lines, &INPUT, &measured.input, row.input, &steps.input);
+        for (index, output) in MeasuredKind::of(measured).outputs.iter().enumerate() {
+            let (sensor, torque) = (&measured.outputs[index], row.outputs[index]);
+            self.add_sensor(lines, output, sensor, torque, &steps.outputs[index]);
         }
-        self.add_loss_uncertainty(lines, &steps);
+        self.add_loss_uncertainty(lines, measured, &steps);
         self.add_measured_loss(lines, row, &steps);
         add_allowance(lines, &steps);
         add_sum(lines, &steps);
         steps.entry.rounded_up()
     }
 
+    /// A sensor with its torque, up to U.
+    fn add_sensor(
+        &self,
+        lines: &mut Lines,
+        side: &Side,
+        sensor: &Sensor,
+        torque: u32,
+        steps: &SensorSteps,
+    ) {
+        self.add_numbers(lines, side, sensor);
+        let torque = grouped(torque.into());
+        let name = side.name;
+        lines.add("C", format!("{torque} hundredths, the {name} torque"));
+        add_parts(lines, sensor, &torque, steps);
+        add_sensor_uncertainty(lines, steps);
+    }
+
     /// A sensor's nine numbers.
-    fn add_sensor(&self, lines: &mut Lines, side: &str, tag: u8, sensor: &Sensor) {
+    fn add_numbers(&self, lines: &mut Lines, side: &Side, sensor: &Sensor) {
         let [n, w, z, c, k, s, p, d, r] = texts(sensor);
         let numbers = format!("N {n}, w {w}, z {z}, c {c}, k {k}, s {s}, p {p}, d {d}, R {r}");
-        let start = count(self.body(tag));
-        let name = format!("{side} sensor");
+        let start = count(self.body(side.tag));
+        let name = format!("{} sensor", side.label);
         lines.add(&name, format!("body at byte {start}: {numbers}"));
     }
 
-    /// V, W and the loss uncertainty.
-    fn add_loss_uncertainty(&self, lines: &mut Lines, steps: &MeasuredSteps) {
+    /// V, W of each output sensor, and the loss uncertainty.
+    fn add_loss_uncertainty(&self, lines: &mut Lines, measured: &Measured, steps: &MeasuredSteps) {
         let uncertainty = &steps.loss_uncertainty;
         let (input, ratio) = (grouped(steps.input.uncertainty), self.ratio());
         let fraction = over(uncertainty.at_wheel);
         let v = grouped(uncertainty.at_wheel.rounded_up());
-        let w = grouped(steps.output.uncertainty);
         lines.add(
-            "V",
+            INPUT.part,
             format!("{input} × {ratio} = {fraction}, rounded up {v} grains"),
         );
-        lines.add("W", format!("{w} grains, U of the output sensor"));
+        let mut squares = format!("{v}×{v}");
+        let outputs = MeasuredKind::of(measured).outputs;
+        for (output, steps) in outputs.iter().zip(&steps.outputs) {
+            let (w, name) = (grouped(steps.uncertainty), output.name);
+            lines.add(output.part, format!("{w} grains, U of the {name} sensor"));
+            squares += &format!(" + {w}×{w}");
+        }
         let needed = grouped(uncertainty.sum_of_squares);
-        lines.add("sum of squares", format!("{v}×{v} + {w}×{w} = {needed}"));
+        lines.add("sum of squares", format!("{squares} = {needed}"));
         add_least(
             lines,
             "loss uncertainty",
@@ -209,7 +280,7 @@ impl Traced<'_> {
     }
 
     fn add_measured_loss(&self, lines: &mut Lines, row: &Row, steps: &MeasuredSteps) {
-        let (input, output) = (grouped(row.input.into()), grouped(row.output.into()));
+        let (input, output) = (grouped(row.input.into()), grouped(row.output().into()));
         let loss = decimal(steps.loss, 3);
         let ratio = self.ratio();
         lines.add(
@@ -235,6 +306,22 @@ impl Traced<'_> {
         let number = count(listing::line_number(self.index()));
         lines.add("listing", format!("line {number}: {line}"));
     }
+}
+
+/// The output torque, where it is a sum.
+fn add_output_sum(lines: &mut Lines, row: &Row) {
+    let torques: Vec<String> = row
+        .outputs
+        .iter()
+        .map(|torque| grouped((*torque).into()))
+        .collect();
+    let output = row.output().into();
+    let (hundredths, whole) = (grouped(output), decimal(output, 2));
+    let sum = torques.join(" + ");
+    lines.add(
+        "output torque",
+        format!("{sum} = {hundredths} hundredths = {whole} Nm"),
+    );
 }
 
 /// A sensor's numbers as texts, in their order.

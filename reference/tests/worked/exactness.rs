@@ -24,8 +24,15 @@ fn verdict(holds: bool, excess_millionths: i64) -> Verdict {
 
 #[test]
 fn worked_entries_are_exact() {
-    for (input, entry) in [(110_000, 30_000), (102_000, 6_700), (100_000, 900)] {
-        let map = exact(&calibrated(input));
+    for (numbers, entry) in [
+        (calibrated(110_000), 30_000),
+        (calibrated(102_000), 6_700),
+        (calibrated(100_000), 900),
+        (half_shafts([102_000, 200_000, 100_000]), 6_600),
+        (half_shafts([100_000, 0, 300_000]), 800),
+        (half_shafts([102_000, 150_500, 150_000]), 6_125),
+    ] {
+        let map = exact(&numbers);
         for speed_index in 0..2 {
             let check = |entry| map.check_entry(speed_index, 0, entry);
             assert_eq!(check(entry - 1), verdict(false, -1_000_000));
@@ -82,7 +89,7 @@ fn an_irrational_root() {
     // h is 10,000 grains: the root is 20,000 / root of 3 = 11,547.00538379...
     // grains, 15.4700538379... hundredths above 1 Nm.
     let influenced = [1_000, 0, 0, 0, 1_000, 1_000, 1_000, 0, 10];
-    let rows = [(0, 0), (1_000, 1_000)];
+    let rows = [[0, 0], [1_000, 1_000]];
     let sensors = [influenced, quiet_sensor(100)];
     let numbers = Numbers::measured(1_000, &[0, 10], sensors, &rows);
     assert_eq!(numbers.build().unwrap().entries, [16; 4]);
@@ -107,7 +114,7 @@ fn each_part_has_its_factor() {
     ];
     for (sensor, above) in sensors {
         // Input 100.00 Nm, output 200.00 Nm, no loss.
-        let rows = [(10_000, 20_000), (20_000, 40_000)];
+        let rows = [[10_000, 20_000], [20_000, 40_000]];
         let pair = [sensor, quiet_sensor(1_000)];
         let map = exact(&Numbers::measured(2_000, &[200, 400], pair, &rows));
         assert_eq!(-map.check_entry(0, 0, 0).excess_millionths, above);
@@ -122,10 +129,35 @@ fn each_part_has_its_factor() {
 }
 
 #[test]
+fn each_side_has_its_own_square() {
+    // a is as many grains as the torque has hundredths: 30,000 at the left and
+    // 10,000 at the right. The roots are 60,000, 20,000 and the root of
+    // 4,000,000,000 over the root of 3, in grains: 34,641.016151...,
+    // 11,547.005383... and 36,514.837167...
+    let warm = [1_000, 10_000, 0, 0, 1_000, 0, 0, 100, 10];
+    let quiet = quiet_sensor(1_000);
+    let rows = [[40_000, 30_000, 10_000], [80_000, 0, 80_000]];
+    for (left, right, entry, excess) in [
+        (warm, quiet, 247, 589_839),
+        (quiet, warm, 16, 529_947),
+        (warm, warm, 266, 851_629),
+    ] {
+        let numbers = Numbers::measured(1_000, &[400, 800], [quiet, left, right], &rows);
+        assert_eq!(numbers.build().unwrap().entries[0], entry);
+        let map = exact(&numbers);
+        assert_eq!(map.check_entry(1, 0, entry), verdict(true, excess));
+        assert_eq!(
+            map.check_entry(1, 0, entry - 1),
+            verdict(false, excess - 1_000_000)
+        );
+    }
+}
+
+#[test]
 fn a_wide_rounding() {
     // The exact value is near 1,125.309: well over a hundredth is rounding.
     let sensor = [2_676, 5_700, 52, 178, 6_893, 47, 545, 356, 72];
-    let rows = [(2_452, 47_970), (5_000, 96_300)];
+    let rows = [[2_452, 47_970], [5_000, 96_300]];
     let pair = [sensor, quiet_sensor(50_000)];
     let numbers = Numbers::measured(19_905, &[480, 963], pair, &rows);
     assert_eq!(numbers.build().unwrap().entries[0], 1_127);
@@ -134,22 +166,53 @@ fn a_wide_rounding() {
     assert_eq!(map.check_entry(0, 0, 1_128), verdict(false, 2_690_967));
 }
 
-#[test]
-fn all_parts_at_both_sensors() {
-    // The least whole number above the exact value, and its excess, found
-    // beforehand by decimal arithmetic of 60 digits.
-    let numbers = largest(true);
-    let map = exact(&numbers);
-    let expected = [
-        (0, 0, 5_401, 54_905),
-        (0, 5, 5_713, 177_317),
-        (0, 63, 18_264, 603_733),
-        (20, 31, 34_713, 841_777),
-        (31, 63, 55_903, 162_878),
-    ];
+/// The least whole number above the exact value, and its excess, by the places
+/// on the axes; found beforehand by decimal arithmetic of 60 digits and more.
+fn expect_exact(numbers: &Numbers, expected: [(usize, usize, u32, i64); 5]) {
+    let map = exact(numbers);
     for (speed_index, torque_index, entry, excess) in expected {
         let found = map.check_entry(speed_index, torque_index, entry);
         assert_eq!(found, verdict(true, excess));
+    }
+}
+
+#[test]
+fn all_parts_at_all_sensors() {
+    expect_exact(
+        &largest(2),
+        [
+            (0, 0, 5_401, 54_905),
+            (0, 5, 5_713, 177_317),
+            (0, 63, 18_264, 603_733),
+            (20, 31, 34_713, 841_777),
+            (31, 63, 55_903, 162_878),
+        ],
+    );
+    expect_exact(
+        &largest(3),
+        [
+            (0, 0, 6_419, 328_617),
+            (0, 5, 6_705, 92_128),
+            (0, 63, 18_606, 702_532),
+            (20, 31, 35_299, 924_730),
+            (31, 63, 56_243, 957_163),
+        ],
+    );
+}
+
+#[test]
+fn the_largest_influences_of_all_sensors() {
+    // No whole number on the way leaves its range: the largest parts have the
+    // least k and R, the largest denominators the highest.
+    for (k, r) in [(1_000, 10), (10_000, 100)] {
+        let most = [50_000, 10_000, 10_000, 10_000, k, 10_000, 1_000, 500, r];
+        let rows = [[5_000, 60_000, 40_000], [250_025, 2_500_000, 2_500_500]];
+        let numbers = Numbers::measured(20_000, &[1_000, 50_000], [most; 3], &rows);
+        let built = numbers.build().unwrap();
+        let map = exact(&numbers);
+        for (index, entry) in built.entries.iter().enumerate() {
+            assert!(map.check_entry(index / 2, index % 2, *entry).holds);
+        }
     }
 }
 
@@ -173,21 +236,26 @@ fn any_numbers(chance: &mut Chance) -> Numbers {
     let second = 2 * first + chance.between(1, 100);
     let torques = [first, second, second + chance.between(1, 200)];
     let ratio = chance.between(1_000, 20_000);
-    let sensors = [sensor(chance), sensor(chance)];
-    let mut numbers = Numbers::measured(ratio, &torques, sensors, &[(0, 0); 3]);
+    let mut numbers = Numbers::standard(1, ratio, &[], &torques);
     numbers.line = u8::try_from(chance.between(1, 5)).unwrap();
     numbers.speeds = vec![first_speed, first_speed + chance.between(1, 1_500)];
-    for (index, row) in numbers.rows.iter_mut().enumerate() {
-        let output = 100 * u32::from(torques[index % 3]) + u32::from(chance.between(0, 500));
+    if chance.up_to(4) == 0 {
+        return numbers;
+    }
+    let sensors = 2 + chance.up_to(1);
+    numbers.sensors = (0..sensors).map(|_| sensor(chance)).collect();
+    for torque in torques.repeat(2) {
+        let output = 100 * u32::from(torque) + u32::from(chance.between(0, 500));
         let at_input = (output * 1_000).div_ceil(u32::from(ratio));
         let most = u64::from(5 * chance.between(1, 1_000));
-        *row = (
-            at_input + u32::try_from(chance.up_to(most)).unwrap(),
-            output,
-        );
-    }
-    if chance.up_to(4) == 0 {
-        numbers.rows.clear();
+        let input = at_input + u32::try_from(chance.up_to(most)).unwrap();
+        let right = if sensors == 3 {
+            u32::try_from(chance.up_to(u64::from(output))).unwrap()
+        } else {
+            0
+        };
+        let row = [input, output - right, right];
+        numbers.rows.push(row[..numbers.sensors.len()].to_vec());
     }
     numbers
 }
@@ -230,20 +298,25 @@ fn check_map(numbers: &Numbers, chance: &mut Chance) {
 #[test]
 fn many_small_maps() {
     let mut chance = Chance(20_172_400);
-    let mut accepted = 0;
-    for _ in 0..2_000 {
+    // By the number of sensors.
+    let mut accepted = [0; 4];
+    for _ in 0..3_000 {
         let numbers = any_numbers(&mut chance);
-        accepted += usize::from(numbers.build().is_ok());
+        accepted[numbers.sensors.len()] += usize::from(numbers.build().is_ok());
         check_map(&numbers, &mut chance);
     }
-    assert!(accepted > 1_500, "{accepted} of 2,000 were accepted");
+    let [standard, _, measured, sides] = accepted;
+    assert!(
+        standard > 500 && measured > 800 && sides > 800,
+        "accepted of 3,000: {accepted:?}"
+    );
 }
 
 #[test]
 fn largest_maps_keep_their_limits() {
     let mut chance = Chance(1);
-    for measured in [false, true] {
-        let numbers = largest(measured);
+    for kind in 1..=3 {
+        let numbers = largest(kind);
         assert!(numbers.build().is_ok());
         check_map(&numbers, &mut chance);
     }

@@ -61,15 +61,18 @@ fn uncertainties() {
     assert_eq!(sensor_uncertainty([1, 0, 0, 0]), 2);
     assert_eq!(sensor_uncertainty([0, 0, 1, 0]), 2);
     let component = component::read(&calibrated(110_000).bytes()).unwrap();
-    let component::Kind::Measured { input, output, .. } = component.kind else {
+    let component::Kind::Measured(measured) = component.kind else {
         panic!("measured data");
     };
-    assert_eq!(sensor_parts(&input, 110_000), [0, 0, 10_000, 0]);
-    assert_eq!(sensor_parts(&output, 300_000), [0, 0, 40_000, 0]);
+    assert_eq!(sensor_parts(&measured.input, 110_000), [0, 0, 10_000, 0]);
+    assert_eq!(
+        sensor_parts(&measured.outputs[0], 300_000),
+        [0, 0, 40_000, 0]
+    );
     assert_eq!(sensor_uncertainty([0, 0, 10_000, 0]), 20_000);
     assert_eq!(sensor_uncertainty([0, 0, 40_000, 0]), 80_000);
     // The ratio on the square of U would give 87,178 and a bit.
-    assert_eq!(loss_uncertainty(20_000, 3_000, 80_000), 100_000);
+    assert_eq!(loss_uncertainty(20_000, 3_000, &[80_000]), 100_000);
 }
 
 #[test]
@@ -110,7 +113,7 @@ fn measured_losses() {
 #[test]
 fn entry_is_rounded_up_once() {
     // Loss 1 x 1.001 hundredths, no uncertainty.
-    let rows = [(1, 0), (2_000, 1_000)];
+    let rows = [[1, 0], [2_000, 1_000]];
     let sensors = [quiet_sensor(100); 2];
     let numbers = Numbers::measured(1_001, &[0, 10], sensors, &rows);
     assert_eq!(numbers.build().unwrap().entries, [2, 1_002, 2, 1_002]);
@@ -141,12 +144,12 @@ fn negative_answers_are_rounded_towards_zero() {
 
 #[test]
 fn largest_maps() {
-    for measured in [false, true] {
-        let numbers = largest(measured);
+    for (kind, length) in [(1, 211), (2, 16_640), (3, 24_853)] {
+        let numbers = largest(kind);
         let data = numbers.bytes();
         let map = numbers.build().unwrap();
         assert_eq!(map.entries.len(), 2_048);
-        assert_eq!(data.len(), if measured { 16_640 } else { 211 });
+        assert_eq!(data.len(), length);
         let text = listing(&lent(&map), usize::MAX).unwrap();
         assert_eq!(report(&data), text);
         assert_eq!(text.iter().filter(|byte| **byte == b'\n').count(), 2_049);

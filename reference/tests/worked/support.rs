@@ -12,15 +12,18 @@ pub fn quiet_sensor(nominal: u16) -> SensorNumbers {
     [nominal, 0, 0, 0, 1_000, 0, 0, 0, 10]
 }
 
-/// The numbers of component data; without rows it is of kind 1.
+/// The numbers of component data. It is of kind 1 without sensors, of kind 2
+/// with two, of kind 3 with three.
 #[derive(Clone)]
 pub struct Numbers {
     pub line: u8,
     pub ratio: u16,
     pub speeds: Vec<u16>,
     pub torques: Vec<u16>,
-    pub sensors: [SensorNumbers; 2],
-    pub rows: Vec<(u32, u32)>,
+    /// The input sensor first.
+    pub sensors: Vec<SensorNumbers>,
+    /// Each with one torque for each sensor.
+    pub rows: Vec<Vec<u32>>,
 }
 
 impl Numbers {
@@ -30,43 +33,55 @@ impl Numbers {
             ratio,
             speeds: speeds.to_vec(),
             torques: torques.to_vec(),
-            sensors: [quiet_sensor(1); 2],
+            sensors: Vec::new(),
             rows: Vec::new(),
         }
     }
 
     /// Measured, with the same row at every speed for each torque.
-    pub fn measured(
+    pub fn measured<const SENSORS: usize>(
         ratio: u16,
         torques: &[u16],
-        sensors: [SensorNumbers; 2],
-        rows: &[(u32, u32)],
+        sensors: [SensorNumbers; SENSORS],
+        rows: &[[u32; SENSORS]],
     ) -> Numbers {
         Numbers {
-            sensors,
-            rows: rows.repeat(2),
+            sensors: sensors.to_vec(),
+            rows: rows.repeat(2).iter().map(|row| row.to_vec()).collect(),
             ..Numbers::standard(1, ratio, &[100, 200], torques)
         }
     }
 
+    /// The tags of the sensors, and of the rows.
+    fn measured_tags(&self) -> (&'static [u8], u8) {
+        match self.sensors.len() {
+            0 => (&[], 0),
+            2 => (&[6, 7], 8),
+            3 => (&[6, 7, 9], 10),
+            count => panic!("{count} sensors"),
+        }
+    }
+
     pub fn bytes(&self) -> Vec<u8> {
-        let kind = if self.rows.is_empty() { 1 } else { 2 };
-        let mut data = field(1, &[kind]);
+        let kind = self.sensors.len().max(1);
+        let mut data = field(1, &[u8::try_from(kind).unwrap()]);
         data.extend(field(2, &[self.line]));
         data.extend(numbers_field(3, &[self.ratio]));
         data.extend(numbers_field(4, &self.speeds));
         data.extend(numbers_field(5, &self.torques));
-        if kind == 2 {
-            data.extend(numbers_field(6, &self.sensors[0]));
-            data.extend(numbers_field(7, &self.sensors[1]));
-            data.extend(field(8, &rows_body(&self.rows)));
+        let (sensor_tags, rows_tag) = self.measured_tags();
+        for (tag, sensor) in sensor_tags.iter().zip(&self.sensors) {
+            data.extend(numbers_field(*tag, sensor));
+        }
+        if rows_tag > 0 {
+            data.extend(field(rows_tag, &rows_body(&self.rows)));
         }
         data
     }
 
-    /// Where tag 8's body starts.
+    /// Where the rows start.
     pub fn rows_start(&self) -> usize {
-        self.bytes().len() - 8 * self.rows.len()
+        self.bytes().len() - 4 * self.rows.concat().len()
     }
 
     pub fn build(&self) -> Result<Map, Refusal> {
@@ -90,11 +105,9 @@ pub fn numbers_field(tag: u8, numbers: &[u16]) -> Vec<u8> {
     field(tag, &body)
 }
 
-fn rows_body(rows: &[(u32, u32)]) -> Vec<u8> {
-    rows.iter()
-        .flat_map(|(input, output)| [input.to_be_bytes(), output.to_be_bytes()])
-        .flatten()
-        .collect()
+fn rows_body(rows: &[Vec<u32>]) -> Vec<u8> {
+    let torques = rows.iter().flatten();
+    torques.flat_map(|torque| torque.to_be_bytes()).collect()
 }
 
 pub fn lent(map: &Map) -> LentMap {
@@ -122,36 +135,57 @@ pub fn example() -> Numbers {
     Numbers::standard(1, 3_000, &[100, 200], &[0, 1_000])
 }
 
+/// A sensor of this nominal torque that is uncertain by its calibration alone.
+fn calibrated_sensor(nominal: u16) -> SensorNumbers {
+    [nominal, 0, 0, 100, 1_000, 0, 0, 0, 10]
+}
+
 /// The sensors of "Reckoned by hand", one row for 3,000 Nm with this input
 /// torque and a harmless one for 6,000 Nm.
 pub fn calibrated(input: u32) -> Numbers {
-    let sensor = |nominal| [nominal, 0, 0, 100, 1_000, 0, 0, 0, 10];
     Numbers::measured(
         3_000,
         &[3_000, 6_000],
-        [sensor(10_000), sensor(40_000)],
-        &[(input, 300_000), (220_000, 600_000)],
+        [10_000, 40_000].map(calibrated_sensor),
+        &[[input, 300_000], [220_000, 600_000]],
     )
 }
 
-/// The largest map's data, standard or measured.
-pub fn largest(measured: bool) -> Numbers {
+/// The same of kind 3: V, W and W' are 60,000, 60,000 and 30,000 grains, and
+/// their root is 90,000. The row for 3,000 Nm is given.
+pub fn half_shafts(row: [u32; 3]) -> Numbers {
+    Numbers::measured(
+        3_000,
+        &[3_000, 6_000],
+        [10_000, 30_000, 15_000].map(calibrated_sensor),
+        &[row, [220_000, 350_000, 250_000]],
+    )
+}
+
+/// The data of the largest map of a kind.
+pub fn largest(kind: usize) -> Numbers {
     let speeds: Vec<u16> = (1..=32).map(|index| 90 * index).collect();
     let torques: Vec<u16> = (0..64).map(|index| 700 * index).collect();
     let mut numbers = Numbers::standard(5, 19_905, &speeds, &torques);
-    if measured {
-        numbers.sensors = [
-            [2_676, 5_700, 52, 178, 6_893, 47, 545, 356, 72],
-            [50_000, 311, 17, 93, 9_999, 1_001, 777, 499, 97],
-        ];
-        numbers.rows = (0..32 * 64)
-            .map(|index| {
-                let output = 100 * u32::from(torques[index % 64]);
-                let extra = 50 + u32::try_from(index).unwrap();
-                (output * 10 / 199 + extra, output)
-            })
-            .collect();
+    if kind == 1 {
+        return numbers;
     }
+    let sensors = [
+        [2_676, 5_700, 52, 178, 6_893, 47, 545, 356, 72],
+        [50_000, 311, 17, 93, 9_999, 1_001, 777, 499, 97],
+        [31_000, 407, 23, 101, 1_003, 883, 991, 101, 11],
+    ];
+    numbers.sensors = sensors[..kind].to_vec();
+    numbers.rows = (0..32 * 64)
+        .map(|index| {
+            let output = 100 * u32::from(torques[index % 64]);
+            let extra = 50 + u32::try_from(index).unwrap();
+            let input = output * 10 / 199 + extra;
+            // Kind 3 has more than half of it at the left.
+            let right = if kind == 3 { output * 3 / 7 } else { 0 };
+            [input, output - right, right][..kind].to_vec()
+        })
+        .collect();
     numbers
 }
 

@@ -1,5 +1,5 @@
-//! Traces of the cases of "Reckoned by hand". The texts were written from the
-//! rule book, not taken from the program.
+//! Traces of the cases of "Reckoned by hand", and of one of two half-shafts. The
+//! texts were written from the rule book, not taken from the program.
 
 use crate::support::*;
 use reference::lookup::loss;
@@ -57,6 +57,97 @@ listing           line 2: 100,3000,300.00
 fn the_whole_trace_of_the_first_case() {
     let text = entry(&calibrated(110_000).bytes(), 100, 3_000).unwrap();
     assert_eq!(text, FIRST_CASE);
+}
+
+const HALF_SHAFTS: &str = "\
+data              141 bytes, kind 3, measured, left and right
+ratio             3.000, at byte 11: 0B B8
+speed             100 rpm, number 0 of 2 counted from 0, at byte 16: 00 64
+torque            3,000 Nm, number 0 of 2 counted from 0, at byte 23: 0B B8
+row               0 = 0 × 2 + 0 counted from 0, at byte 93 + 12 × 0 = 93: 00 01 8E 70 00 03 0D 40 00 01 86 A0
+input torque      102,000 hundredths = 1,020.00 Nm, at byte 93: 00 01 8E 70
+left torque       200,000 hundredths = 2,000.00 Nm, at byte 97: 00 03 0D 40
+right torque      100,000 hundredths = 1,000.00 Nm, at byte 101: 00 01 86 A0
+output torque     200,000 + 100,000 = 300,000 hundredths = 3,000.00 Nm
+input sensor      body at byte 30: N 10,000, w 0, z 0, c 100, k 1,000, s 0, p 0, d 0, R 10
+C                 102,000 hundredths, the input torque
+a                 0 × 0 × 102,000 / (100,000 × 10) = 0 / 1,000,000, rounded up 0 grains
+b                 0 × 0 × 10,000 / (1,000 × 10) = 0 / 10,000, rounded up 0 grains
+g                 100 × 10,000 × 10 / 1,000 = 10,000,000 / 1,000, rounded up 10,000 grains
+h                 0 × 0 × 10,000 / 100,000 = 0 / 100,000, rounded up 0 grains
+sum of squares    4 × (0×0 + 0×0 + 3×10,000×10,000 + 0×0) = 1,200,000,000
+U                 20,000 grains: 3 × 20,000 × 20,000 = 1,200,000,000, at least 1,200,000,000
+one less          3 × 19,999 × 19,999 = 1,199,880,003, below 1,200,000,000
+left sensor       body at byte 51: N 30,000, w 0, z 0, c 100, k 1,000, s 0, p 0, d 0, R 10
+C                 200,000 hundredths, the left output torque
+a                 0 × 0 × 200,000 / (100,000 × 10) = 0 / 1,000,000, rounded up 0 grains
+b                 0 × 0 × 30,000 / (1,000 × 10) = 0 / 10,000, rounded up 0 grains
+g                 100 × 30,000 × 10 / 1,000 = 30,000,000 / 1,000, rounded up 30,000 grains
+h                 0 × 0 × 30,000 / 100,000 = 0 / 100,000, rounded up 0 grains
+sum of squares    4 × (0×0 + 0×0 + 3×30,000×30,000 + 0×0) = 10,800,000,000
+U                 60,000 grains: 3 × 60,000 × 60,000 = 10,800,000,000, at least 10,800,000,000
+one less          3 × 59,999 × 59,999 = 10,799,640,003, below 10,800,000,000
+right sensor      body at byte 72: N 15,000, w 0, z 0, c 100, k 1,000, s 0, p 0, d 0, R 10
+C                 100,000 hundredths, the right output torque
+a                 0 × 0 × 100,000 / (100,000 × 10) = 0 / 1,000,000, rounded up 0 grains
+b                 0 × 0 × 15,000 / (1,000 × 10) = 0 / 10,000, rounded up 0 grains
+g                 100 × 15,000 × 10 / 1,000 = 15,000,000 / 1,000, rounded up 15,000 grains
+h                 0 × 0 × 15,000 / 100,000 = 0 / 100,000, rounded up 0 grains
+sum of squares    4 × (0×0 + 0×0 + 3×15,000×15,000 + 0×0) = 2,700,000,000
+U                 30,000 grains: 3 × 30,000 × 30,000 = 2,700,000,000, at least 2,700,000,000
+one less          3 × 29,999 × 29,999 = 2,699,820,003, below 2,700,000,000
+V                 20,000 × 3.000 = 60,000,000 / 1,000, rounded up 60,000 grains
+W                 60,000 grains, U of the left output sensor
+W'                30,000 grains, U of the right output sensor
+sum of squares    60,000×60,000 + 60,000×60,000 + 30,000×30,000 = 8,100,000,000
+loss uncertainty  90,000 grains: 90,000 × 90,000 = 8,100,000,000, at least 8,100,000,000
+one less          89,999 × 89,999 = 8,099,820,001, below 8,100,000,000
+measured loss     102,000 × 3.000 - 300,000 = 6,000.000 hundredths
+5 % of it         300.00000 hundredths
+1 Nm              100.00000 hundredths
+allowance         300.00000 hundredths, the larger of the two
+above allowance   900.00000 (90,000 grains) - 300.00000 = 600.00000 hundredths
+unrounded entry   6,000.000 + 600.00000 = 6,600.00000 hundredths
+entry             6,600 hundredths, rounded up once, = 66.00 Nm
+listing           line 2: 100,3000,66.00
+";
+
+#[test]
+fn the_whole_trace_of_two_half_shafts() {
+    let data = half_shafts([102_000, 200_000, 100_000]).bytes();
+    assert_eq!(entry(&data, 100, 3_000).unwrap(), HALF_SHAFTS);
+}
+
+#[test]
+fn each_side_with_its_own_numbers() {
+    // The last row, of the second speed, at 93 + 36.
+    let mut numbers = half_shafts([102_000, 200_000, 100_000]);
+    numbers.sensors[1][1] = 7;
+    numbers.sensors[2][1] = 11;
+    numbers.sensors[1][7] = 20;
+    numbers.sensors[2][7] = 20;
+    let text = entry(&numbers.bytes(), 200, 6_000).unwrap();
+    let place = "129: 00 03 5B 60 00 05 57 30 00 03 D0 90";
+    assert_eq!(
+        steps(&text, "row"),
+        [format!(
+            "3 = 1 × 2 + 1 counted from 0, at byte 93 + 12 × 3 = {place}"
+        )]
+    );
+    let right = "250,000 hundredths = 2,500.00 Nm, at byte 137: 00 03 D0 90";
+    assert_eq!(steps(&text, "right torque"), [right]);
+    let torques = [
+        "220,000 hundredths, the input torque",
+        "350,000 hundredths, the left output torque",
+        "250,000 hundredths, the right output torque",
+    ];
+    assert_eq!(steps(&text, "C"), torques);
+    let a = steps(&text, "a");
+    let left = "7 × 20 × 350,000 / (100,000 × 10) = 49,000,000 / 1,000,000, rounded up 49 grains";
+    let right = "11 × 20 × 250,000 / (100,000 × 10) = 55,000,000 / 1,000,000, rounded up 55 grains";
+    assert_eq!(a[1..], [left, right]);
+    let sum = "350,000 + 250,000 = 600,000 hundredths = 6,000.00 Nm";
+    assert_eq!(steps(&text, "output torque"), [sum]);
 }
 
 /// The last steps of a case, from the measured loss on.
@@ -127,7 +218,7 @@ fn what_is_not_on_the_grid() {
 /// The sensor's numbers differ from each other, and no part is whole.
 fn influenced() -> String {
     let sensor = [3_001, 7, 11, 13, 1_001, 17, 19, 23, 29];
-    let rows = [(2_000, 1_500), (200_000, 200_000)];
+    let rows = [[2_000, 1_500], [200_000, 200_000]];
     let sensors = [sensor, quiet_sensor(3_000)];
     let numbers = Numbers::measured(1_001, &[15, 2_000], sensors, &rows);
     entry(&numbers.bytes(), 200, 2_000).unwrap()
@@ -179,7 +270,7 @@ fn the_parts_together() {
 #[test]
 fn thousandths_of_a_hundredth() {
     // 2,001 x 1.001 - 1,500 = 503.001; a twentieth of it is 25.15005.
-    let rows = [(2_001, 1_500), (200_000, 200_000)];
+    let rows = [[2_001, 1_500], [200_000, 200_000]];
     let sensors = [quiet_sensor(3_000); 2];
     let numbers = Numbers::measured(1_001, &[15, 2_000], sensors, &rows);
     let text = entry(&numbers.bytes(), 100, 15).unwrap();
@@ -194,7 +285,7 @@ fn thousandths_of_a_hundredth() {
 
 #[test]
 fn the_least_of_all_numbers() {
-    let rows = [(0, 0), (200_000, 200_000)];
+    let rows = [[0, 0], [200_000, 200_000]];
     let sensors = [quiet_sensor(3_000); 2];
     let numbers = Numbers::measured(1_001, &[0, 2_000], sensors, &rows);
     let text = entry(&numbers.bytes(), 100, 0).unwrap();

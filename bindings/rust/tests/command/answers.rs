@@ -41,6 +41,61 @@ fn loss() {
     assert_failed(loss(REFUSED, "100", "0"), 1, REFUSAL);
 }
 
+/// Left and right are added: 28.00 and 66.00 Nm at 100 rpm, 40.35 and 300.00 Nm at 200 rpm.
+#[test]
+fn data_of_kind_3() {
+    let listing =
+        "speed,torque,loss\n100,1000,28.00\n100,3000,66.00\n200,1000,40.35\n200,3000,300.00\n";
+    let axes = "accepted: 2 speeds from 100 to 200 rpm, 2 torques from 1000 to 3000 Nm\n";
+    let data = std::fs::read(examples_folder().join(HALF_SHAFTS)).expect("read");
+    for (word, answer) in [("list", listing), ("check", axes)] {
+        assert_answered(run([word, HALF_SHAFTS]), answer);
+        assert_answered(run_with_input(&[word, "-"], &data), answer);
+    }
+    let loss = |speed, torque| run(["loss", HALF_SHAFTS, speed, torque]);
+    assert_answered(loss("100", "3000"), "66.00\n");
+    assert_answered(loss("100", "2000"), "47.00\n");
+    // 47.00 and 170.175 Nm at the two speeds: 108.5875 Nm between them, rounded up.
+    assert_answered(loss("150", "2000"), "108.59\n");
+    // 40.35 Nm less a quarter of the rise of 259.65 Nm: -24.5625 Nm, rounded up.
+    assert_answered(loss("200", "500"), "-24.56\n");
+    assert_failed_with(loss("99.9", "2000"), 1, "axle: refused 20 at 0: ");
+    assert_failed_with(loss("100", "3000.01"), 1, "axle: refused 21 at 0: ");
+    let nearest = |speed, torque| run(["nearest", HALF_SHAFTS, speed, torque]);
+    assert_answered(nearest("150", "2000"), "100,1000\n");
+    assert_answered(nearest("150.1", "2000.01"), "200,3000\n");
+}
+
+#[test]
+fn refused_data_of_kind_3() {
+    let data = std::fs::read(examples_folder().join(HALF_SHAFTS)).expect("read");
+    let refused = |offset: usize, bytes: &[u8], message: &str| {
+        let mut data = data.clone();
+        data[offset..offset + bytes.len()].copy_from_slice(bytes);
+        for word in ["list", "check"] {
+            assert_failed(run_with_input(&[word, "-"], &data), 1, message);
+        }
+    };
+    // Tag 8 where 9 is due, the right torque above its sensor's, 5.01 Nm too much in all.
+    refused(
+        69,
+        &[8],
+        "axle: refused 2 at 69: missing or wrong field (the field's offset)\n",
+    );
+    refused(
+        113,
+        &1_500_001u32.to_be_bytes(),
+        "axle: refused 7 at 113: measured torque above the sensor's nominal torque \
+         (the torque's offset)\n",
+    );
+    refused(
+        113,
+        &100_501u32.to_be_bytes(),
+        "axle: refused 8 at 109: output torque more than 5.00 Nm off the axis torque \
+         (the torque's offset, of kind 3 the left one's)\n",
+    );
+}
+
 #[test]
 fn questions_outside_the_map() {
     let loss = |speed, torque| run(["loss", STANDARD, speed, torque]);

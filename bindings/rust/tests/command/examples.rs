@@ -64,7 +64,7 @@ fn largest(name: &str) -> PathBuf {
 fn the_largest_map_has_room() {
     let file = largest("stdin");
     let mut data = std::fs::read(&file).expect("read");
-    assert_eq!(data.len(), 16_640, "the longest data");
+    assert_eq!(data.len(), 24_853, "the longest data");
     let listing = std::fs::read_to_string(largest("stdout")).expect("read");
     let axes = "accepted: 32 speeds from 1 to 3000 rpm, 64 torques from 0 to 50000 Nm\n";
     for (word, answer) in [("list", listing.as_str()), ("check", axes)] {
@@ -76,6 +76,6 @@ fn the_largest_map_has_room() {
     data.push(0);
     for word in ["list", "check"] {
         let output = run_with_input(&[word, "-"], &data);
-        assert_failed_with(output, 1, "axle: refused 12 at 16640: ");
+        assert_failed_with(output, 1, "axle: refused 12 at 24853: ");
     }
 }

@@ -12,6 +12,7 @@ use std::process::{Command, Output, Stdio};
 
 const STANDARD: &str = "standard.axle";
 const MEASURED: &str = "measured.axle";
+const HALF_SHAFTS: &str = "half-shafts.axle";
 const REFUSED: &str = "refused.axle";
 
 fn examples_folder() -> PathBuf {

@@ -1,4 +1,4 @@
-//! The two dumps of the page as text: every offset, byte and remark.
+//! The dumps of the page as text: every offset, byte and remark.
 
 use super::*;
 
@@ -6,7 +6,7 @@ use super::*;
 fn width(tag: u8) -> usize {
     match tag {
         1 | 2 => 1,
-        8 => 4,
+        8 | 10 => 4,
         _ => 2,
     }
 }
@@ -38,7 +38,15 @@ fn thousandths(value: u32) -> String {
     format!("{}: {}.{:03}", value, value / 1_000, value % 1_000)
 }
 
-fn head_remark(field: &Field) -> String {
+/// The torques of a row, as the page calls them.
+fn torque_names(rows_tag: u8) -> &'static [&'static str] {
+    match rows_tag {
+        8 => &["input", "output"],
+        _ => &["input", "left", "right"],
+    }
+}
+
+fn head_remark(kind: u32, field: &Field) -> String {
     let length = field.body.len();
     let bytes = if length == 1 { "byte" } else { "bytes" };
     let count = numbers(field).len();
@@ -46,8 +54,10 @@ fn head_remark(field: &Field) -> String {
         4 => format!(": {} speeds", count),
         5 => format!(": {} torques", count),
         6 => ": the sensor at the input".to_string(),
-        7 => ": the sensor at the output".to_string(),
-        8 => format!(": {} rows", count / 2),
+        7 if kind == 2 => ": the sensor at the output".to_string(),
+        7 => ": the sensor at the left half-shaft".to_string(),
+        8 | 10 => format!(": {} rows", count / torque_names(field.tag).len()),
+        9 => ": the sensor at the right half-shaft".to_string(),
         _ => String::new(),
     };
     format!("tag {}, a body of {} {}{}", field.tag, length, bytes, what)
@@ -66,29 +76,26 @@ fn sensor_remark(index: usize, value: u32) -> String {
 }
 
 /// A row's input torque is told with its grid point: the torques of the first speed come first.
-fn row_remark(fields: &[Field], index: usize, value: u32) -> String {
-    if index % 2 == 1 {
-        return format!("output torque {}", hundredths(value));
+fn row_remark(fields: &[Field], tag: u8, index: usize, value: u32) -> String {
+    let names = torque_names(tag);
+    let (row, place) = (index / names.len(), index % names.len());
+    let remark = format!("{} torque {}", names[place], hundredths(value));
+    if place > 0 {
+        return remark;
     }
     let (speeds, torques) = (numbers(&fields[3]), numbers(&fields[4]));
-    let row = index / 2;
     let (speed, torque) = (speeds[row / torques.len()], torques[row % torques.len()]);
-    let input = hundredths(value);
-    format!("{} rpm, {} Nm: input torque {}", speed, torque, input)
+    format!("{} rpm, {} Nm: {}", speed, torque, remark)
 }
 
 fn number_remark(fields: &[Field], tag: u8, index: usize, value: u32) -> String {
     match tag {
-        1 => format!(
-            "kind {}: {}",
-            value,
-            ["standard", "measured"][value as usize - 1]
-        ),
+        1 => format!("kind {}: {}", value, kinds()[value as usize - 1].0),
         2 => format!("line {}: {}", value, line_names()[value as usize - 1]),
         3 => format!("ratio {}", thousandths(value)),
         4 => format!("{} rpm", value),
         5 => format!("{} Nm", value),
-        8 => row_remark(fields, index, value),
+        8 | 10 => row_remark(fields, tag, index, value),
         _ => sensor_remark(index, value),
     }
 }
@@ -100,13 +107,14 @@ fn line(offset: usize, bytes: &[u8], remark: &str) -> String {
 
 fn dump(data: &[u8]) -> Vec<String> {
     let fields = fields(data);
+    let kind = numbers(&fields[0])[0];
     let mut lines = Vec::new();
     for field in &fields {
         let body = field.head + 3;
         lines.push(line(
             field.head,
             &data[field.head..body],
-            &head_remark(field),
+            &head_remark(kind, field),
         ));
         let width = width(field.tag);
         for (index, value) in numbers(field).into_iter().enumerate() {
@@ -127,7 +135,7 @@ fn block<'a>(page: &'a str, mark: &str) -> Vec<&'a str> {
 
 #[test]
 fn the_dumps_are_the_examples() {
-    for name in ["measured", "standard"] {
+    for name in ["measured", "standard", "half-shafts"] {
         let told = dump(&example_named(&format!("{}.axle", name)));
         assert_eq!(block(&page(), &format!("{}.dump", name)), told);
     }

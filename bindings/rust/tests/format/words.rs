@@ -31,9 +31,9 @@ fn the_lines_are_in_the_order_of_the_table() {
     }
 }
 
-/// The measured example with other numbers of four bytes at these offsets.
-fn with_torques(torques: &[(usize, u32)]) -> Vec<u8> {
-    let mut data = example();
+/// An example with other numbers of four bytes at these offsets.
+fn with_torques(example: Vec<u8>, torques: &[(usize, u32)]) -> Vec<u8> {
+    let mut data = example;
     for (offset, torque) in torques {
         data[*offset..][..4].copy_from_slice(&torque.to_be_bytes());
     }
@@ -49,11 +49,37 @@ fn output_torques_off_their_grid_point() {
     for text in before {
         assert_eq!(text.split_whitespace().last(), Some("5.00"));
     }
+    let answer = |output| refusal_of(&with_torques(measured(), &[(76, output)]));
     for passes in [99_500, 100_500] {
-        assert_eq!(refusal_of(&with_torques(&[(76, passes)])), None);
+        assert_eq!(answer(passes), None);
     }
     for beyond in [99_499, 100_501] {
-        assert_eq!(refusal_of(&with_torques(&[(76, beyond)])), refused(8, 76));
+        assert_eq!(answer(beyond), refused(8, 76));
+    }
+}
+
+/// The refusal of kind 3 with these torques, in hundredths of Nm, at the left and at the right of its second row, whose
+/// grid point has 3,000 Nm.
+fn shared(left: u32, right: u32) -> Option<Refusal> {
+    refusal_of(&with_torques(half_shafts(), &[(109, left), (113, right)]))
+}
+
+#[test]
+fn left_and_right_are_added() {
+    assert!(page().contains("The output torque of kind 3 is the left and the right torque added."));
+    for (left, right) in [(150_000, 150_500), (150_500, 150_000), (149_500, 150_000)] {
+        assert_eq!(shared(left, right), None);
+    }
+    for (left, right) in [(150_000, 150_501), (150_501, 150_000), (149_499, 150_000)] {
+        assert_eq!(shared(left, right), refused(8, 109));
+    }
+}
+
+#[test]
+fn left_and_right_share_as_they_do() {
+    assert!(page().contains(": either may be 0."));
+    for left in [0, 1, 299_999, 300_000] {
+        assert_eq!(shared(left, 300_000 - left), None);
     }
 }
 
@@ -75,7 +101,7 @@ fn the_first_step() {
 fn the_largest_entry() {
     assert!(page().contains("above 100,000.00 Nm"));
     let built = |input, output| {
-        let mut data = with_torques(&[(72, input), (76, output)]);
+        let mut data = with_torques(measured(), &[(72, input), (76, output)]);
         data[11..13].copy_from_slice(&20_000u16.to_be_bytes());
         Map::build(&data).map(|map| map.entries()[0])
     };

@@ -2,7 +2,7 @@
 use mathlib.Core.Path.{_∙_}
 use borrow.Author.Tests.{eq-eqb, ne-eqb}
 use Rattle.component.specs.Component.{kindFields}
-use Rattle.component.proofs.Measurements.{measured-kind, other-kind}
+use Rattle.component.proofs.Measurements.{measured-kind, absent-of-other}
 use borrow.Author.Needs.{needs}
 use Rattle.component.proofs.read_kind.Statement.{statement}
 use Rattle.component.proofs.read_kind.Tie as tie
@@ -12,7 +12,12 @@ not-measured-requires c κs = search needs
 
 returns : tie.Need-returns
 unfolding kindFields
-returns c = (rw (eq-eqb _ _ (c .before .if1 .taken), c .not-measured .ensures .3), rw (c .not-measured .ensures .2) (search needs), λ e. (c .not-measured .ensures .0, c .not-measured .ensures .1, c .not-measured .ensures .2))
+returns c =
+    let absent = c .not-measured .ensures in (
+      rw (eq-eqb _ _ (c .before .if1 .taken), absent .4),
+      rw (absent .3) (search needs),
+      record { not-measured = λ e. (absent .0, absent .1, absent .2, absent .3); no-right = λ e. absent .2 },
+    )
 
 read-measured-requires : tie.Need-read-measured-requires
 read-measured-requires c κs = search needs
@@ -21,7 +26,7 @@ returns-2 : tie.Need-returns-2
 unfolding kindFields
 returns-2 c =
     let e = ne-eqb _ _ (c .before .if1 .left) in
-    (measured-kind _ _ (c .read-measured .result) e ∙ rw e (c .read-measured .ensures .0), c .read-measured .ensures .1, other-kind _ (c .read-measured .result) (c .before .if1 .left))
+    (measured-kind _ _ (c .read-measured .result) e ∙ rw e (c .read-measured .ensures .0), c .read-measured .ensures .1 .0, absent-of-other _ (c .read-measured .result) (c .before .if1 .left) (c .read-measured .ensures .1 .1))
 
 pub read-kind-spec : {M : Type 1} → statement M
 read-kind-spec =

@@ -75,7 +75,7 @@ build-measured-requires c κs =
     let areBytes : AreBytes (now (start .args .«data»)) = λ i h. given-bytes .shared-slice-known .given i .fits in
     let points = few-points _ _ read _ e in (
       bench-right _ _ read _ e areBytes (kind .if2 .left) _ (c .before .before .before .bench-of .ensures),
-      rows-long _ _ read _ e areBytes (kind .if2 .left),
+      rows-long _ _ read _ e areBytes (kind .if2 .left) _ (c .before .before .before .bench-of .ensures),
       omega (arith, points, start .pre .2),
       room .if1 .left,
       part-within (now (start .args .«data»)) (start .args .c .rows .start) (start .args .c .rows .end) (2 ^ 64) (read .rows .0) (read .rows .1) (omega (arith, start .good)),

@@ -1,5 +1,6 @@
 -- `rows::torque_at` meets its contract. Assumes nothing.
 use mathlib.Core.Path.{_∙_}
+use Rattle.rows.specs.Rows.{torqueAt}
 use Rattle.rows.proofs.Torques.{four-at}
 use borrow.Author.Needs.{needs}
 use Rattle.rows.proofs.torque_at.Statement.{statement}
@@ -30,6 +31,7 @@ four-requires : tie.Need-four-requires
 four-requires c κs = search needs
 
 returns : tie.Need-returns
+unfolding torqueAt
 returns c = c .four .ensures ∙ four-at _ _ (c .before .before .before .before .before .before .pre)
 
 pub torque-at-spec : {M : Type 1} → statement M

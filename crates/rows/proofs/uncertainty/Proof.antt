@@ -1,60 +1,100 @@
 -- `rows::uncertainty` meets its contract. Assumes nothing.
 use Prim.Native.Nat.{_≤_}
 use mathlib.Core.Path.{_∙_}
+use mathlib.Core.List.{[], _∷_}
 use native.Mathlib.Omega.{arith}
 use Rattle.loss.specs.Measured.{readings, readingUncertainty, rowUncertainty}
 use Rattle.loss.proofs.Parts.{scaled-at-most, scaled-by-one}
-use Rattle.loss.proofs.Rows.{two-squares-fit, two-squares-root}
+use Rattle.loss.proofs.Rows.{squares-fit, root-fits}
+use Rattle.rows.proofs.BenchRows.{two-sensors, three-sensors}
 use borrow.Author.Needs.{needs}
 use Rattle.rows.proofs.uncertainty.Statement.{statement}
 use Rattle.rows.proofs.uncertainty.Tie as tie
 
-sensor-steps-requires : tie.Need-sensor-steps-requires
-sensor-steps-requires c κs = search needs
+sensor-uncertainty-requires : tie.Need-sensor-uncertainty-requires
+sensor-uncertainty-requires c κs = search needs
 
-sensor-steps-requires-2 : tie.Need-sensor-steps-requires-2
-sensor-steps-requires-2 c κs = search needs
+sensor-uncertainty-requires-2 : tie.Need-sensor-uncertainty-requires-2
+sensor-uncertainty-requires-2 c κs = search needs
+
+cast-of-output : tie.Need-cast-of-output
+cast-of-output c = search needs
 
 scaled-uncertainty-requires : tie.Need-scaled-uncertainty-requires
 scaled-uncertainty-requires c κs = search needs
 
 -- V and W are small
-scaled : (c : tie.After-scaled-uncertainty) → (c .scaled-uncertainty .result ≤ 860000000) × (c .before .sensor-steps2 .result .uncertainty ≤ 43000000)
+scaled : (c : tie.After-scaled-uncertainty) → (c .scaled-uncertainty .result ≤ 860000000) × (c .before .sensor-uncertainty2 .result ≤ 43000000)
 scaled c =
-    let pre = c .before .before .before .before .before .pre in
-    (rw (c .scaled-uncertainty .ensures) (scaled-at-most (pre .0 .ratio) (c .before .before .sensor-steps .ensures .1)), c .before .sensor-steps2 .ensures .1)
+    let pre = c .before .before .before .pre in
+    (rw (c .scaled-uncertainty .ensures) (scaled-at-most (pre .0 .ratio) (c .before .before .sensor-uncertainty .ensures .1)), c .before .sensor-uncertainty2 .ensures .1)
 
-cast-t10 : tie.Need-cast-t10
-cast-t10 c = search needs
+sensor-uncertainty-requires-3 : tie.Need-sensor-uncertainty-requires-3
+sensor-uncertainty-requires-3 c κs =
+    let pre = c .before .before .before .before .before .pre in
+    (pre .0 .right (c .if1 .taken), pre .3)
+
+cast-of-right : tie.Need-cast-of-right
+cast-of-right c = search needs
+
+returns : tie.Need-returns
+unfolding rowUncertainty readings readingUncertainty
+returns c =
+    let wheel = c .before .before .before .before .before in
+    c .loss-uncertainty .ensures .0
+    ∙ rw (three-sensors _ (c .before .before .before .if1 .taken), scaled-by-one, scaled-by-one, wheel .scaled-uncertainty .ensures, wheel .before .before .sensor-uncertainty .ensures .0, wheel .before .sensor-uncertainty2 .ensures .0, c .before .before .sensor-uncertainty3 .ensures .0)
 
 slice-aggregate-loss-uncertainty : tie.Need-slice-aggregate-loss-uncertainty
 slice-aggregate-loss-uncertainty c = search needs
 
 loss-uncertainty-requires : tie.Need-loss-uncertainty-requires
 loss-uncertainty-requires c κs =
-    let s = scaled (c .before .before) in
-    two-squares-fit (s .0) (s .1)
+    let s = scaled (c .before .before .before .before) in
+    let right = c .before .sensor-uncertainty3 in
+    squares-fit (c .before .before .before .before .before .sensor-uncertainty2 .result ∷ right .result ∷ []) (s .0) (s .1, (right .ensures .1, tt)) (omega arith)
 
 cast-result : tie.Need-cast-result
 cast-result c =
-    let s = scaled (c .before .before .before) in
-    omega (arith, c .loss-uncertainty .ensures .0, two-squares-root (s .0) (s .1))
+    let s = scaled (c .before .before .before .before .before) in
+    let right = c .before .before .sensor-uncertainty3 in
+    omega (arith, c .loss-uncertainty .ensures .0, root-fits (c .before .before .before .before .before .before .sensor-uncertainty2 .result ∷ right .result ∷ []) (s .0) (s .1, (right .ensures .1, tt)) (omega arith))
 
-returns : tie.Need-returns
+slice-aggregate-loss-uncertainty-2 : tie.Need-slice-aggregate-loss-uncertainty-2
+slice-aggregate-loss-uncertainty-2 c = search needs
+
+loss-uncertainty-requires-2 : tie.Need-loss-uncertainty-requires-2
+loss-uncertainty-requires-2 c κs =
+    let s = scaled (c .before .before .before) in
+    squares-fit (c .before .before .before .before .sensor-uncertainty2 .result ∷ []) (s .0) (s .1, tt) (omega arith)
+
+cast-result-2 : tie.Need-cast-result-2
+cast-result-2 c =
+    let s = scaled (c .before .before .before .before) in
+    omega (arith, c .loss-uncertainty2 .ensures .0, root-fits (c .before .before .before .before .before .sensor-uncertainty2 .result ∷ []) (s .0) (s .1, tt) (omega arith))
+
+returns-2 : tie.Need-returns-2
 unfolding rowUncertainty readings readingUncertainty
-returns c =
-    let steps = c .before .before .before .before in
-    c .loss-uncertainty .ensures .0 ∙ rw (scaled-by-one, c .before .before .before .scaled-uncertainty .ensures, steps .before .sensor-steps .ensures .0, steps .sensor-steps2 .ensures .0)
+returns-2 c =
+    let wheel = c .before .before .before .before in
+    let right = c .before .before .before .before .before .before .before .pre .0 in
+    c .loss-uncertainty2 .ensures .0
+    ∙ rw (two-sensors _ (right .least) (right .most) (c .before .before .if1 .left), scaled-by-one, wheel .scaled-uncertainty .ensures, wheel .before .before .sensor-uncertainty .ensures .0, wheel .before .sensor-uncertainty2 .ensures .0)
 
 pub uncertainty-spec : {M : Type 1} → statement M
 uncertainty-spec =
     tie.close
     (tie.spec
-    sensor-steps-requires
-    sensor-steps-requires-2
+    sensor-uncertainty-requires
+    sensor-uncertainty-requires-2
+    cast-of-output
     scaled-uncertainty-requires
-    cast-t10
+    sensor-uncertainty-requires-3
+    cast-of-right
     slice-aggregate-loss-uncertainty
     loss-uncertainty-requires
     cast-result
-    returns)
+    returns
+    slice-aggregate-loss-uncertainty-2
+    loss-uncertainty-requires-2
+    cast-result-2
+    returns-2)
