@@ -10,7 +10,7 @@
    Component data says its kind: 1 standard, 2 measured with one sensor at the
    output, 3 measured with one on each half-shaft, left and right, whose torques
    together are the output torque. Every call takes all three alike. No accepted
-   data is longer than 24,853 bytes. docs/FORMAT.md has it byte by byte.
+   data is longer than 24,853 bytes. docs/FORMAT.md has each kind byte by byte.
 
    Answers. `refusal` is 0 where the call is answered, else the number of the
    refusal (below), and `place` its place. Values stand apart from them, and a

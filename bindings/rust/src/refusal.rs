@@ -36,7 +36,7 @@ fn words(number: u32, place: usize) -> Option<&'static str> {
         7 => "measured torque above the sensor's nominal torque (the torque's offset)",
         8 => {
             "output torque more than 5.00 Nm off the axis torque \
-             (the torque's offset, of kind 3 the left one's)"
+             (the torque's offset, for kind 3 the left torque's)"
         }
         9 => "measured loss under zero (the row's offset)",
         10 => "entry above 100000.00 Nm (the row's offset)",

@@ -20,7 +20,7 @@ use Rattle.loss.specs.Standard.{lineOf}
 use Rattle.loss.proofs.Lines.{line-of-usable}
 use Rattle.loss.proofs.Rounding.{under-zero-is}
 use Rattle.loss.proofs.Values.{standardNumerator, standard-loss-is}
-use Rattle.map.specs.Build.{points, pointIndex, benchOf}
+use Rattle.map.specs.Build.{points, pointIndex, dataBench}
 use Rattle.map.specs.Answers.{Builds}
 use Rattle.map.specs.declared.Built.{Built}
 use Rattle.refusal.specs.declared.Answer.the-variants.{Accepted}
@@ -40,9 +40,9 @@ parts-defined s r = record {
 }
 
 -- the byte of the kind
-first-byte : (c : Component) → getD (layout c) 3 0 ≡ kindNumber (c .kind)
+kind-byte-is : (c : Component) → getD (layout c) 3 0 ≡ kindNumber (c .kind)
 unfolding layout fieldBytes
-first-byte c = refl
+kind-byte-is c = refl
 
 all-defined : (sensors : List Sensor) → AllSensorRules sensors → AllPartsDefined sensors
 all-defined [] r = tt
@@ -61,7 +61,7 @@ point-defined c i j standard h l k r =
     under-zero-is (standard-loss-is (lineOf (c .line)) (c .ratio) (getD (c .torques) j 0) (line-of-usable (c .line) .least)) ∙ le-ltb (standardNumerator (lineOf (c .line)) (c .ratio) (getD (c .torques) j 0)) 0 (omega arith)
 point-defined c i j (measured input outputs rows) h l k r = record {
   ends = row-ends (rowLength (sensorCount outputs)) _ _ _ (point-within c i j h l) (le-of-eq (sym (k .long)));
-  sensors = sensors-kept (benchOf c input outputs) (rows .bytes) _;
+  sensors = sensors-kept (dataBench c input outputs) (rows .bytes) _;
   not-under-zero = r .loss;
 }
 
@@ -86,7 +86,7 @@ module _ (bytes before after : List ℕ) (r : Built) (areBytes : AreBytes bytes)
         last-line = rules .line .1;
         efficiency-above-0 = usable .least;
         efficiency-to-100 = usable .most;
-        kind-byte = rw (sound bytes said areBytes (d .read) .1) at (first-byte said);
+        kind-byte = rw (sound bytes said areBytes (d .read) .1) at (kind-byte-is said);
         kind = kind-defined (length (said .speeds)) (length (said .torques)) (said .kind) (rules .kind);
         point = λ i j h l. point-defined said i j (said .kind) h l (rules .kind) (rows-right said (d .rows) i j h l);
         point-there = point-within said;

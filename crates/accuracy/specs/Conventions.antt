@@ -1,4 +1,4 @@
--- A fraction over 0, a difference under 0, a fraction under zero rounded up and a number past the end of a list have a value by convention only. Accepted data reaches none of them.
+-- A fraction over 0, a difference under 0, a fraction under zero rounded up and a number past the end of a list have a value by convention only. Accepted data reaches none of them. And it loses no sensor on the way.
 use Prim.Native.Nat.{ℕ, _+_, _≤_, _<_}
 use mathlib.Core.Path.{_≡_}
 use mathlib.Core.Bool.{false}
@@ -19,11 +19,12 @@ pub record PartsDefined (sensor : Sensor) : Type 0 where
   pub calibration : 0 < calibration sensor .denominator
   pub parasitic : 0 < parasiticLoads sensor .denominator
 
+-- of every sensor
 abbrev pub AllPartsDefined : List Sensor → Type 0
 AllPartsDefined [] = Unit {0}
 AllPartsDefined (sensor ∷ sensors) = PartsDefined sensor × AllPartsDefined sensors
 
--- the row of a point: it stands in the bytes of the rows, and each sensor of the data has its torque in it
+-- the row of a point: it stands in the bytes of the rows, and every sensor of the data is read in it, in their order
 pub record RowDefined (c : Component) (speed torque : ℕ) (input : Sensor) (outputs : List Sensor) (rows : Rows) : Type 0 where
   pub ends : pointStart c speed torque input outputs + rowLength (sensorCount outputs) ≤ length (rows .bytes)
   pub sensors : map (λ (reading : SensorReading). reading .sensor) (readings (pointRow c speed torque input outputs rows)) ≡ input ∷ outputs

@@ -1,4 +1,4 @@
--- Reading cases of document 01, "Reckoned by hand" and "Refusals", shown of the definition. Assumes nothing.
+-- Reading cases of document 01, "Reckoned by hand" and "Refusals", and the kinds of document 02, C-11, shown of the definition. Assumes nothing.
 use Prim.Native.Nat.{ℕ}
 use mathlib.Core.Path.{_≡_, refl}
 use mathlib.Core.List.{List, [], _∷_, _++_}
@@ -35,10 +35,12 @@ examples =
     ∷ record { bytes = upToTorques 3 0xE8 ++ (0 ∷ 0 ∷ 3 ∷ 0xE8 ∷ []); says = standardWith 1000 (0 ∷ 1000 ∷ []) }
     ∷ record { bytes = upToTorques 0x4E 0x20 ++ (0 ∷ 0 ∷ 3 ∷ 0xE8 ∷ []); says = standardWith 20000 (0 ∷ 1000 ∷ []) }
     ∷ record { bytes = upToTorques 0x4E 0x21 ++ (0 ∷ 0 ∷ 3 ∷ 0xE8 ∷ []); says = refuse 4 11 }
+    ∷ record { bytes = 1 ∷ 0 ∷ 1 ∷ 3 ∷ []; says = refuse 2 4 }
+    ∷ record { bytes = 1 ∷ 0 ∷ 1 ∷ 4 ∷ []; says = refuse 4 3 }
     ∷ record { bytes = 1 ∷ []; says = refuse 1 0 }
     ∷ record { bytes = []; says = refuse 2 0 }
     ∷ []
 
 hold : Hold examples
 unfolding Hold examples upToTorques standardWith component axleFields axesFields kindFields measuredFields head field number axis pairs within rises axisNumber axisNumbers firstStep firstRefusal
-hold = (refl, (refl, (refl, (refl, (refl, (refl, (refl, (refl, (refl, (refl, tt))))))))))
+hold = (refl, (refl, (refl, (refl, (refl, (refl, (refl, (refl, (refl, (refl, (refl, (refl, tt))))))))))))

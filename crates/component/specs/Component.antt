@@ -28,18 +28,19 @@ abbrev pub kindNumber : Kind → ℕ
 kindNumber standard = 1
 kindNumber (measured input outputs rows) = sensorCount outputs
 
--- the tags of a measured kind: its output sensors, one or left and right, and its rows
+-- the tags of a measured kind's output sensors: one, or left and right
 unfoldable pub outputTags : ℕ → List ℕ
 outputTags kind = 7 ∷ (if eqb kind 2 then [] else 9 ∷ [])
 
--- the input's sensor is first
+-- and of all its sensors: that of the input is first
 abbrev pub sensorTags : ℕ → List ℕ
 sensorTags kind = 6 ∷ outputTags kind
 
+-- the tag of its rows
 unfoldable pub rowsTag : ℕ → ℕ
 rowsTag kind = if eqb kind 2 then 8 else 10
 
--- how many bytes a row has: four for the torque of each sensor
+-- how many bytes a row has: four for the torque of each sensor, of which there are as many as the kind's number
 abbrev pub rowLength : (sensors : ℕ) → ℕ
 rowLength sensors = 4 * sensors
 

@@ -1,4 +1,4 @@
--- Document 01, "Component data", the other way round: the bytes that numbers are laid out as.
+-- Document 01, "Component data", and document 02, C-11, the other way round: the bytes that numbers are laid out as.
 use Prim.Native.Nat.{ℕ, _/_, _%_}
 use mathlib.Core.List.{List, [], _∷_, _++_}
 use lib.ListN.{length}

@@ -1,4 +1,4 @@
--- Document 01, "Component data": the ranges, orders and counts that the numbers keep, said of each number by its index.
+-- Document 01, "Component data", and document 02, C-11: the ranges, orders and counts that the numbers keep, said of each number by its index.
 use Prim.Native.Nat.{ℕ, _+_, _*_, _≤_, _<_}
 use mathlib.Core.Path.{_≡_}
 use mathlib.Core.List.{List, [], _∷_}
@@ -26,7 +26,7 @@ sensorsStart speeds torques = 19 + 2 * speeds + 2 * torques
 abbrev pub rowsHead : (sensors speeds torques : ℕ) → ℕ
 rowsHead sensors speeds torques = sensorsStart speeds torques + 21 * sensors
 
--- one output sensor or two, and a row for each point, past its field's head
+-- one output sensor or two, every sensor with its rules, and a row for each point; the rows start after the three bytes of their head
 pub record MeasuredRules (speeds torques : ℕ) (input : Sensor) (outputs : List Sensor) (rows : Rows) : Type 0 where
   pub some-output : 1 ≤ length outputs
   pub most-outputs : length outputs ≤ 2

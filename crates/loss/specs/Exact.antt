@@ -1,4 +1,4 @@
--- Document 01, "Accuracy over whole numbers": the exact entry, which fractions are at or below it and at or above it, and what an entry keeps to. Assumes nothing.
+-- Document 01, "Accuracy over whole numbers", and document 02, C-11: the exact entry, which fractions are at or below it and at or above it, and what an entry keeps to. Assumes nothing.
 use Prim.Native.Nat.{ℕ}
 use mathlib.Core.List.{List, [], _∷_}
 use mathlib.Core.Logic.{_⊎_}

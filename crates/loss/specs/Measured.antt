@@ -1,4 +1,4 @@
--- Document 01, "Measured loss". Ratios and factors are in thousandths, torques and losses in hundredths of Nm, uncertainties in grains. Assumes nothing.
+-- Document 01, "Measured loss", and document 02, C-11: any number of output sensors. Ratios and factors are in thousandths, torques and losses in hundredths of Nm, uncertainties in grains. Assumes nothing.
 use Prim.Native.Nat.{ℕ, _+_, _*_, _≤_}
 use mathlib.Core.Bool.{Bool, true, false}
 use mathlib.Core.List.{List, [], _∷_, map}

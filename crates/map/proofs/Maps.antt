@@ -14,7 +14,7 @@ use Rattle.sensor.specs.declared.Sensor.{Sensor}
 use Rattle.grid.specs.Lists.{joined}
 use Rattle.rows.specs.Rows.{Bench, torqueAt, outputsAt, rowAt, rowStart}
 use Rattle.grid.proofs.Lists.{tabulate-same, joined-same}
-use Rattle.map.specs.Build.{points, benchOf, entry, entryOfKind, check, checkOfKind, speedCheck, rowsCheck, speedEntries, entries, mapOf}
+use Rattle.map.specs.Build.{points, dataBench, entry, entryOfKind, check, checkOfKind, speedCheck, rowsCheck, speedEntries, entries, mapOf}
 use Rattle.map.specs.Answers.{standardAt, standardRow}
 use Rattle.rows.specs.Answers.{partCheck, partEntry, speedPartCheck, speedPartEntries}
 
@@ -76,7 +76,7 @@ module _ (line ratio : ℕ) (speeds torques : List ℕ) (input : Sensor) (output
 
   -- the bench of these data
   abbrev bench : Bench
-  bench = benchOf measuredSays input outputs
+  bench = dataBench measuredSays input outputs
 
   starts : (i j : ℕ) → rowStart bench (i * length torques) + rowStart bench j ≡ rowStart bench (i * length torques + j)
   starts i j = omega arith

@@ -23,15 +23,15 @@ abbrev pub pointIndex : Component → ℕ → ℕ → ℕ
 pointIndex c speed torque = speed * torqueCount c + torque
 
 -- what all rows of measured data share
-abbrev pub benchOf : Component → Sensor → List Sensor → Bench
-benchOf c input outputs = record { ratio = c .ratio; input = input; outputs = outputs }
+abbrev pub dataBench : Component → Sensor → List Sensor → Bench
+dataBench c input outputs = record { ratio = c .ratio; input = input; outputs = outputs }
 
 -- where the row of a point starts in the bytes of all rows, and the row
 abbrev pub pointStart : Component → (speed torque : ℕ) → Sensor → List Sensor → ℕ
-pointStart c speed torque input outputs = rowStart (benchOf c input outputs) (pointIndex c speed torque)
+pointStart c speed torque input outputs = rowStart (dataBench c input outputs) (pointIndex c speed torque)
 
 abbrev pub pointRow : Component → (speed torque : ℕ) → Sensor → List Sensor → Rows → Row
-pointRow c speed torque input outputs rows = rowAt (benchOf c input outputs) (rows .bytes) (pointStart c speed torque input outputs)
+pointRow c speed torque input outputs rows = rowAt (dataBench c input outputs) (rows .bytes) (pointStart c speed torque input outputs)
 
 -- the entry of a point, by the indices of its speed and its torque
 unfoldable pub entryOfKind : Component → ℕ → ℕ → Kind → ℕ

@@ -1,4 +1,4 @@
--- Every sensor of the bench is in every row, with its torque. Assumes nothing.
+-- Every sensor of the bench is read in every row, in their order. Assumes nothing.
 use Prim.Native.Nat.{ℕ, _+_}
 use mathlib.Core.Path.{_≡_, refl}
 use mathlib.Core.List.{List, [], _∷_, map}

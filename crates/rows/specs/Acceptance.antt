@@ -1,4 +1,4 @@
--- Document 01, "Refusals", 7 to 10: the rules that a row keeps, and the first condition that it meets, said of its numbers.
+-- Document 01, "Refusals", 7 to 10, and document 02, C-11: the rules that a row keeps, and the first condition that it meets, said of its numbers.
 use Prim.Native.Nat.{ℕ, _+_, _*_, _≤_, _<_}
 use mathlib.Core.Path.{_≡_}
 use mathlib.Core.Bool.{false, true}
@@ -12,7 +12,7 @@ abbrev pub OutputsWithin : List Output → Type 0
 OutputsWithin [] = Unit {0}
 OutputsWithin (o ∷ os) = (o .torque ≤ 100 * o .sensor .nominal) × OutputsWithin os
 
--- 7: the first whose torque is; the first output's torque is at a place
+-- 7: the first output whose torque is above its own; the first output's torque is at a place, each next one four bytes on
 abbrev pub OutputsFault : List Output → (place : ℕ) → Told → Type 0
 OutputsFault [] place told = ⊥
 OutputsFault (o ∷ os) place told =
@@ -34,7 +34,7 @@ pub data RowFault (torque : ℕ) (row : Row) (place : ℕ) (told : Told) : Type 
   input-above : 100 * row .sensor .nominal < row .input → told ≡ refusal 7 place → RowFault torque row place told
   -- 7: an output torque is above its own
   output-above : row .input ≤ 100 * row .sensor .nominal → OutputsFault (row .outputs) (place + 4) told → RowFault torque row place told
-  -- 8: the output torque is more than 5.00 Nm off its axis torque
+  -- 8: the torque of all outputs together is more than 5.00 Nm off its axis torque; told at the first output's torque
   off-axis : row .input ≤ 100 * row .sensor .nominal → OutputsWithin (row .outputs)
       → (100 * torque + 500 < output row) ⊎ (output row + 500 < 100 * torque) → told ≡ refusal 8 (place + 4) → RowFault torque row place told
   -- 9: the measured loss is under zero

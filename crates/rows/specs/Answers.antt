@@ -19,7 +19,7 @@ use Rattle.rows.specs.declared.RowEntry.the-variants.{Entry, Refused as 
 use Rattle.refusal.specs.declared.Answer.{Answer}
 use Rattle.refusal.specs.declared.Answer.the-variants.{Accepted, Refused}
 
--- of two sensors the right one means nothing
+-- the code's bench in the definitions' terms; of two sensors the right one means nothing
 abbrev pub benchOf : BenchParts → Bench
 benchOf b = record {
   ratio = b .ratio;
@@ -72,6 +72,7 @@ rowOf b input output right = record {
 abbrev pub rightTorqueAt : List ℕ → (at sensors : ℕ) → ℕ
 rightTorqueAt rows at sensors = if eqb sensors 2 then 0 else torqueAt rows (at + 8)
 
+-- the right torque is 0 where there is no right sensor
 abbrev pub NoRightTorque : BenchParts → (right : ℕ) → Type 0
 NoRightTorque b right = b .sensors ≡ 2 → right ≡ 0
 

@@ -94,7 +94,7 @@ fn under_zero(ratio: u16, input: u32, output: u32) -> bool
 }
 
 // The uncertainty of a sensor at its torque, in grains.
-fn sensor_uncertainty(parts: SensorParts, torque: u32) -> u32
+fn uncertainty_at(parts: SensorParts, torque: u32) -> u32
     requires { ⌜ PartsRight parts × (torque ≤ 5000000) ⌝ }
     ensures { λ r. ⌜ (r ≡ sensorSteps (parts .sensor) torque .uncertainty) × (r ≤ 43000000) ⌝ }
 {
@@ -107,11 +107,11 @@ fn uncertainty(bench: Bench, input: u32, output: u32, right: u32) -> u32
     requires { ⌜ BenchRight bench × (input ≤ 5000000) × (output ≤ 5000000) × (right ≤ 5000000) ⌝ }
     ensures { λ r. ⌜ r ≡ rowUncertainty (rowOf bench input output right) ⌝ }
 {
-    let of_input = sensor_uncertainty(bench.input, input);
-    let of_output = sensor_uncertainty(bench.output, output) as u64;
+    let of_input = uncertainty_at(bench.input, input);
+    let of_output = uncertainty_at(bench.output, output) as u64;
     let at_wheel = loss::scaled_uncertainty(bench.ratio, of_input);
     if bench.sensors == 3 {
-        let of_right = sensor_uncertainty(bench.right, right) as u64;
+        let of_right = uncertainty_at(bench.right, right) as u64;
         let all = [at_wheel, of_output, of_right];
         return loss::loss_uncertainty(&all) as u32;
     }

@@ -92,7 +92,7 @@ fn refused_data_of_kind_3() {
         113,
         &100_501u32.to_be_bytes(),
         "axle: refused 8 at 109: output torque more than 5.00 Nm off the axis torque \
-         (the torque's offset, of kind 3 the left one's)\n",
+         (the torque's offset, for kind 3 the left torque's)\n",
     );
 }
 

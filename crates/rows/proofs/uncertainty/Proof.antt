@@ -11,11 +11,11 @@ use borrow.Author.Needs.{needs}
 use Rattle.rows.proofs.uncertainty.Statement.{statement}
 use Rattle.rows.proofs.uncertainty.Tie as tie
 
-sensor-uncertainty-requires : tie.Need-sensor-uncertainty-requires
-sensor-uncertainty-requires c κs = search needs
+uncertainty-at-requires : tie.Need-uncertainty-at-requires
+uncertainty-at-requires c κs = search needs
 
-sensor-uncertainty-requires-2 : tie.Need-sensor-uncertainty-requires-2
-sensor-uncertainty-requires-2 c κs = search needs
+uncertainty-at-requires-2 : tie.Need-uncertainty-at-requires-2
+uncertainty-at-requires-2 c κs = search needs
 
 cast-of-output : tie.Need-cast-of-output
 cast-of-output c = search needs
@@ -24,13 +24,13 @@ scaled-uncertainty-requires : tie.Need-scaled-uncertainty-requires
 scaled-uncertainty-requires c κs = search needs
 
 -- V and W are small
-scaled : (c : tie.After-scaled-uncertainty) → (c .scaled-uncertainty .result ≤ 860000000) × (c .before .sensor-uncertainty2 .result ≤ 43000000)
+scaled : (c : tie.After-scaled-uncertainty) → (c .scaled-uncertainty .result ≤ 860000000) × (c .before .uncertainty-at2 .result ≤ 43000000)
 scaled c =
     let pre = c .before .before .before .pre in
-    (rw (c .scaled-uncertainty .ensures) (scaled-at-most (pre .0 .ratio) (c .before .before .sensor-uncertainty .ensures .1)), c .before .sensor-uncertainty2 .ensures .1)
+    (rw (c .scaled-uncertainty .ensures) (scaled-at-most (pre .0 .ratio) (c .before .before .uncertainty-at .ensures .1)), c .before .uncertainty-at2 .ensures .1)
 
-sensor-uncertainty-requires-3 : tie.Need-sensor-uncertainty-requires-3
-sensor-uncertainty-requires-3 c κs =
+uncertainty-at-requires-3 : tie.Need-uncertainty-at-requires-3
+uncertainty-at-requires-3 c κs =
     let pre = c .before .before .before .before .before .pre in
     (pre .0 .right (c .if1 .taken), pre .3)
 
@@ -42,7 +42,7 @@ unfolding rowUncertainty readings readingUncertainty
 returns c =
     let wheel = c .before .before .before .before .before in
     c .loss-uncertainty .ensures .0
-    ∙ rw (three-sensors _ (c .before .before .before .if1 .taken), scaled-by-one, scaled-by-one, wheel .scaled-uncertainty .ensures, wheel .before .before .sensor-uncertainty .ensures .0, wheel .before .sensor-uncertainty2 .ensures .0, c .before .before .sensor-uncertainty3 .ensures .0)
+    ∙ rw (three-sensors _ (c .before .before .before .if1 .taken), scaled-by-one, scaled-by-one, wheel .scaled-uncertainty .ensures, wheel .before .before .uncertainty-at .ensures .0, wheel .before .uncertainty-at2 .ensures .0, c .before .before .uncertainty-at3 .ensures .0)
 
 slice-aggregate-loss-uncertainty : tie.Need-slice-aggregate-loss-uncertainty
 slice-aggregate-loss-uncertainty c = search needs
@@ -50,14 +50,14 @@ slice-aggregate-loss-uncertainty c = search needs
 loss-uncertainty-requires : tie.Need-loss-uncertainty-requires
 loss-uncertainty-requires c κs =
     let s = scaled (c .before .before .before .before) in
-    let right = c .before .sensor-uncertainty3 in
-    squares-fit (c .before .before .before .before .before .sensor-uncertainty2 .result ∷ right .result ∷ []) (s .0) (s .1, (right .ensures .1, tt)) (omega arith)
+    let right = c .before .uncertainty-at3 in
+    squares-fit (c .before .before .before .before .before .uncertainty-at2 .result ∷ right .result ∷ []) (s .0) (s .1, (right .ensures .1, tt)) (omega arith)
 
 cast-result : tie.Need-cast-result
 cast-result c =
     let s = scaled (c .before .before .before .before .before) in
-    let right = c .before .before .sensor-uncertainty3 in
-    omega (arith, c .loss-uncertainty .ensures .0, root-fits (c .before .before .before .before .before .before .sensor-uncertainty2 .result ∷ right .result ∷ []) (s .0) (s .1, (right .ensures .1, tt)) (omega arith))
+    let right = c .before .before .uncertainty-at3 in
+    omega (arith, c .loss-uncertainty .ensures .0, root-fits (c .before .before .before .before .before .before .uncertainty-at2 .result ∷ right .result ∷ []) (s .0) (s .1, (right .ensures .1, tt)) (omega arith))
 
 slice-aggregate-loss-uncertainty-2 : tie.Need-slice-aggregate-loss-uncertainty-2
 slice-aggregate-loss-uncertainty-2 c = search needs
@@ -65,12 +65,12 @@ slice-aggregate-loss-uncertainty-2 c = search needs
 loss-uncertainty-requires-2 : tie.Need-loss-uncertainty-requires-2
 loss-uncertainty-requires-2 c κs =
     let s = scaled (c .before .before .before) in
-    squares-fit (c .before .before .before .before .sensor-uncertainty2 .result ∷ []) (s .0) (s .1, tt) (omega arith)
+    squares-fit (c .before .before .before .before .uncertainty-at2 .result ∷ []) (s .0) (s .1, tt) (omega arith)
 
 cast-result-2 : tie.Need-cast-result-2
 cast-result-2 c =
     let s = scaled (c .before .before .before .before) in
-    omega (arith, c .loss-uncertainty2 .ensures .0, root-fits (c .before .before .before .before .before .sensor-uncertainty2 .result ∷ []) (s .0) (s .1, tt) (omega arith))
+    omega (arith, c .loss-uncertainty2 .ensures .0, root-fits (c .before .before .before .before .before .uncertainty-at2 .result ∷ []) (s .0) (s .1, tt) (omega arith))
 
 returns-2 : tie.Need-returns-2
 unfolding rowUncertainty readings readingUncertainty
@@ -78,17 +78,17 @@ returns-2 c =
     let wheel = c .before .before .before .before in
     let right = c .before .before .before .before .before .before .before .pre .0 in
     c .loss-uncertainty2 .ensures .0
-    ∙ rw (two-sensors _ (right .least) (right .most) (c .before .before .if1 .left), scaled-by-one, wheel .scaled-uncertainty .ensures, wheel .before .before .sensor-uncertainty .ensures .0, wheel .before .sensor-uncertainty2 .ensures .0)
+    ∙ rw (two-sensors _ (right .least) (right .most) (c .before .before .if1 .left), scaled-by-one, wheel .scaled-uncertainty .ensures, wheel .before .before .uncertainty-at .ensures .0, wheel .before .uncertainty-at2 .ensures .0)
 
 pub uncertainty-spec : {M : Type 1} → statement M
 uncertainty-spec =
     tie.close
     (tie.spec
-    sensor-uncertainty-requires
-    sensor-uncertainty-requires-2
+    uncertainty-at-requires
+    uncertainty-at-requires-2
     cast-of-output
     scaled-uncertainty-requires
-    sensor-uncertainty-requires-3
+    uncertainty-at-requires-3
     cast-of-right
     slice-aggregate-loss-uncertainty
     loss-uncertainty-requires
