@@ -28,12 +28,12 @@ pub fn root_up(n: u64) -> u64
     }
 }
 
-// The root of n rounded up, from a guess that is not it: one step from it, tested; bisection where that is not it either.
+// The root of n rounded up, from a guess that is not it: a step of Newton's method and one up or down, tested; bisection where that is not it either.
 fn root_up_about(n: u64, near: u64) -> u64
     requires { ⌜ (0 < near) × (near < 4294967295) ⌝ }
     ensures { λ r. ⌜ r ≡ rootUp n ⌝ }
 {
-    let candidate = corrected(n, near);
+    let candidate = corrected(n, just_above(newton_step(n, near + 1)));
     if is_root_up(n, candidate) {
         candidate
     } else {
@@ -94,7 +94,13 @@ fn near_root(n: u64) -> u64
 {
     let half = u64::leading_zeros(n) / 2 % 32;
     let m = n << (2 * half);
-    let root = newton_step(m, newton_step(m, first_guess(m))) >> half;
+    just_above(newton_step(m, first_guess(m)) >> half)
+}
+
+// One above, or the largest that `corrected` takes.
+fn just_above(root: u64) -> u64
+    ensures { λ r. ⌜ (0 < r) × (r < 4294967295) ⌝ }
+{
     if root < 4294967294 {
         root + 1
     } else {
@@ -102,18 +108,18 @@ fn near_root(n: u64) -> u64
     }
 }
 
-// Near the root of m, for m from 2^62 up: 2^32 * (0.2592 + 1.0529 * t - 0.3161 * t * t), t being m / 2^64.
+// Near the root of m, for m from 2^62 up: 2^32 * (0.19045 + 1.54629 * t - t * t * (1.47586 - 1.06285 * t + 0.32398 * t * t)), t being m / 2^64.
 fn first_guess(m: u64) -> u64
-    ensures { λ r. ⌜ (8 ≤ r) × (r ≤ 2 ^ 62) ⌝ }
+    ensures { λ r. ⌜ (2 ≤ r) × (r ≤ 2 ^ 33) ⌝ }
 {
     let x = m / 281474976710656;
-    1113255523 + 69003 * x - x * x / 65536 * 20716
+    let square = x * x / 65536;
+    817986897 + 101338 * x - (6338771451 - 69655 * x + 21233 * square) / 65536 * square
 }
 
 // One step of Newton's method from s towards the root of m.
 fn newton_step(m: u64, s: u64) -> u64
-    requires { ⌜ (4 ≤ s) × (s ≤ 2 ^ 62) ⌝ }
-    ensures { λ r. ⌜ (s / 2 ≤ r) × (r ≤ 2 ^ 62) ⌝ }
+    requires { ⌜ (2 ≤ s) × (s ≤ 2 ^ 33) ⌝ }
 {
     (s + m / s) / 2
 }

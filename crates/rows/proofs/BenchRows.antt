@@ -1,12 +1,10 @@
 -- The code's bench and rows, with one output sensor or two, are those of the definitions. Assumes nothing.
 use Prim.Native.Nat.{ℕ, _+_, _*_, _≤_, _<_}
 use mathlib.Core.Path.{_≡_, sym}
-use mathlib.Core.Bool.{true, false}
-use mathlib.Core.List.{List, [], _∷_}
+use mathlib.Core.List.{List}
 use native.Mathlib.Omega.{arith}
 use native.Mathlib.Decide.{ℕ-discrete}
 use borrow.Author.Tests.{eq-eqb, ne-eqb, le-leb, lt-leb}
-use lib.Dec.{eqb}
 use Rattle.refusal.specs.Outcome.{refuse}
 use Rattle.component.specs.Component.{sensorCount}
 use Rattle.loss.specs.Measured.{output}
@@ -14,13 +12,6 @@ use Rattle.rows.specs.Rows.{torqueAt, outputsAt, rowAt, outputsCheck}
 use Rattle.rows.specs.Acceptance.{OutputsWithin}
 use Rattle.rows.specs.Answers.{benchOf, BenchRight, rowOf, rightTorqueAt, NoRightTorque}
 use Rattle.rows.specs.declared.Bench.{Bench}
-
--- of two or three sensors
-pub two-sensors : (sensors : ℕ) → 2 ≤ sensors → sensors ≤ 3 → (sensors ≡ 3 → ⊥) → eqb sensors 2 ≡ true
-two-sensors sensors h k not = let two : sensors ≡ 2 = omega arith in eq-eqb sensors 2 two
-
-pub three-sensors : (sensors : ℕ) → sensors ≡ 3 → eqb sensors 2 ≡ false
-three-sensors sensors h = ne-eqb sensors 2 (λ e. absurd (omega arith))
 
 module _ (b : Bench) where
   -- there are as many sensors as the code says

@@ -110,13 +110,13 @@ fn uncertainty(bench: Bench, input: u32, output: u32, right: u32) -> u32
     let of_input = uncertainty_at(bench.input, input);
     let of_output = uncertainty_at(bench.output, output) as u64;
     let at_wheel = loss::scaled_uncertainty(bench.ratio, of_input);
-    if bench.sensors == 3 {
-        let of_right = uncertainty_at(bench.right, right) as u64;
-        let all = [at_wheel, of_output, of_right];
-        return loss::loss_uncertainty(&all) as u32;
+    if bench.sensors == 2 {
+        let both = [at_wheel, of_output];
+        return loss::loss_uncertainty(&both) as u32;
     }
-    let both = [at_wheel, of_output];
-    loss::loss_uncertainty(&both) as u32
+    let of_right = uncertainty_at(bench.right, right) as u64;
+    let all = [at_wheel, of_output, of_right];
+    loss::loss_uncertainty(&all) as u32
 }
 
 // The entry of a row, or its refusal.

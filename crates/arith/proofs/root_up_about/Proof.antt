@@ -3,6 +3,15 @@ use borrow.Author.Needs.{needs}
 use Rattle.arith.proofs.root_up_about.Statement.{statement}
 use Rattle.arith.proofs.root_up_about.Tie as tie
 
+add-newton-step : tie.Need-add-newton-step
+add-newton-step c = search needs
+
+newton-step-requires : tie.Need-newton-step-requires
+newton-step-requires c κs = search needs
+
+just-above-requires : tie.Need-just-above-requires
+just-above-requires c κs = search needs
+
 corrected-requires : tie.Need-corrected-requires
 corrected-requires c κs = search needs
 
@@ -22,6 +31,9 @@ pub root-up-about-spec : {M : Type 1} → statement M
 root-up-about-spec =
     tie.close
     (tie.spec
+    add-newton-step
+    newton-step-requires
+    just-above-requires
     corrected-requires
     is-root-up-requires
     root-up-by-bisection-requires
