@@ -67,7 +67,7 @@ kind-accurate c i j (measured input outputs rows) r k e =
       ratio = r .ratio .1;
       sensor = k .sensors .0;
       outputs = outputs-in-range outputs (rows .bytes) _ (k .sensors .1);
-      few = omega (arith, outputs-count outputs (rows .bytes) (pointStart c i j input outputs + 4), k .most-outputs);
+      few = omega (arith, outputs-count outputs (rows .bytes) (pointStart c i j outputs + 4), k .most-outputs);
       loss = row-right _ _ (placed-accepted _ _ tt e) .loss;
     })
 

@@ -26,7 +26,7 @@ AllPartsDefined (sensor ∷ sensors) = PartsDefined sensor × AllPartsDefined se
 
 -- the row of a point: it stands in the bytes of the rows, and every sensor of the data is read in it, in their order
 pub record RowDefined (c : Component) (speed torque : ℕ) (input : Sensor) (outputs : List Sensor) (rows : Rows) : Type 0 where
-  pub ends : pointStart c speed torque input outputs + rowLength (sensorCount outputs) ≤ length (rows .bytes)
+  pub ends : pointStart c speed torque outputs + rowLength (sensorCount outputs) ≤ length (rows .bytes)
   pub sensors : map (λ (reading : SensorReading). reading .sensor) (readings (pointRow c speed torque input outputs rows)) ≡ input ∷ outputs
   -- what the entry is rounded up from is not under zero: `roundUp` has 0 for that
   pub not-under-zero :

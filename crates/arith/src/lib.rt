@@ -28,7 +28,7 @@ pub fn root_up(n: u64) -> u64
     }
 }
 
-// The root of n rounded up, from a guess that is not it: a step of Newton's method and one up or down, tested; bisection where that is not it either.
+// The root of n rounded up, from a guess that is not it: a step of Newton's method, from one above so that its sum fits, and one up or down, tested; bisection where that is not it either.
 fn root_up_about(n: u64, near: u64) -> u64
     requires { ⌜ (0 < near) × (near < 4294967295) ⌝ }
     ensures { λ r. ⌜ r ≡ rootUp n ⌝ }
@@ -108,7 +108,7 @@ fn just_above(root: u64) -> u64
     }
 }
 
-// Near the root of m, for m from 2^62 up: 2^32 * (0.19045 + 1.54629 * t - t * t * (1.47586 - 1.06285 * t + 0.32398 * t * t)), t being m / 2^64.
+// Near the root of m, for m from 2^62 up: 2^32 * (0.1905 + 1.5463 * t - t * t * (1.4759 - 1.0629 * t + 0.3240 * t * t)), t being m / 2^64.
 fn first_guess(m: u64) -> u64
     ensures { λ r. ⌜ (2 ≤ r) × (r ≤ 2 ^ 33) ⌝ }
 {

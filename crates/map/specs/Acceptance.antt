@@ -19,7 +19,7 @@ PointRules c speed torque (measured input outputs rows) = RowRules (getD (c .tor
 abbrev pub PointFault : Component → (speed torque : ℕ) → Kind → Told → Type 0
 PointFault c speed torque standard told = ⊥
 PointFault c speed torque (measured input outputs rows) told =
-    RowFault (getD (c .torques) torque 0) (pointRow c speed torque input outputs rows) (rows .start + pointStart c speed torque input outputs) told
+    RowFault (getD (c .torques) torque 0) (pointRow c speed torque input outputs rows) (rows .start + pointStart c speed torque outputs) told
 
 -- every row keeps its rules
 abbrev pub AllRowsRight : Component → Type 0

@@ -4,12 +4,12 @@ use mathlib.Core.List.{List}
 use lib.Dec.{leb}
 use lib.ListN.{length, getD}
 use Rattle.refusal.specs.Outcome.{Outcome, accepted, refused, _>>=_, require, placed, firstRefusal}
-use Rattle.component.specs.Component.{Component, Rows, Kind, standard, measured, component}
+use Rattle.component.specs.Component.{Component, Rows, Kind, standard, measured, sensorCount, rowLength, component}
 use Rattle.loss.specs.Standard.{standardEntry}
 use Rattle.grid.specs.Lists.{tabulate, joined, overwritten}
 use Rattle.sensor.specs.declared.Sensor.{Sensor}
 use Rattle.loss.specs.Measured.{Row, measuredEntry}
-use Rattle.rows.specs.Rows.{Bench, rowAt, rowStart, rowCheck}
+use Rattle.rows.specs.Rows.{Bench, rowAt, rowCheck}
 
 -- how many torques there are for each speed, and how many points in all
 abbrev pub torqueCount : Component → ℕ
@@ -27,11 +27,11 @@ abbrev pub dataBench : Component → Sensor → List Sensor → Bench
 dataBench c input outputs = record { ratio = c .ratio; input = input; outputs = outputs }
 
 -- where the row of a point starts in the bytes of all rows, and the row
-abbrev pub pointStart : Component → (speed torque : ℕ) → Sensor → List Sensor → ℕ
-pointStart c speed torque input outputs = rowStart (dataBench c input outputs) (pointIndex c speed torque)
+abbrev pub pointStart : Component → (speed torque : ℕ) → List Sensor → ℕ
+pointStart c speed torque outputs = rowLength (sensorCount outputs) * pointIndex c speed torque
 
 abbrev pub pointRow : Component → (speed torque : ℕ) → Sensor → List Sensor → Rows → Row
-pointRow c speed torque input outputs rows = rowAt (dataBench c input outputs) (rows .bytes) (pointStart c speed torque input outputs)
+pointRow c speed torque input outputs rows = rowAt (dataBench c input outputs) (rows .bytes) (pointStart c speed torque outputs)
 
 -- the entry of a point, by the indices of its speed and its torque
 unfoldable pub entryOfKind : Component → ℕ → ℕ → Kind → ℕ
@@ -45,7 +45,7 @@ entry c speed torque = entryOfKind c speed torque (c .kind)
 unfoldable pub checkOfKind : Component → ℕ → ℕ → Kind → Outcome (Unit {0})
 checkOfKind c speed torque standard = accepted tt
 checkOfKind c speed torque (measured input outputs rows) =
-    placed (λ place. rows .start + pointStart c speed torque input outputs + place)
+    placed (λ place. rows .start + pointStart c speed torque outputs + place)
     (rowCheck (getD (c .torques) torque 0) (pointRow c speed torque input outputs rows))
 
 unfoldable pub check : Component → ℕ → ℕ → Outcome (Unit {0})

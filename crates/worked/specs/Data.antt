@@ -47,7 +47,7 @@ halfShaftsData =
     ∷ 0 ∷ 1 ∷ 0xAD ∷ 0xB0 ∷ 0 ∷ 1 ∷ 0xD4 ∷ 0xC0 ∷ 0 ∷ 2 ∷ 0xBF ∷ 0x20
     ∷ []
 
--- refused.axle: measured.axle with an input torque of 999.99 Nm in the second row, whose loss is under zero
+-- refused.axle: measured.axle with an input torque of 999.99 Nm in the second and the fourth row, whose loss is under zero
 abbrev pub refusedData : List ℕ
 refusedData =
     1 ∷ 0 ∷ 1 ∷ 2
