@@ -4,8 +4,8 @@
    `rt staticlib axle` proves the library and writes it.
 
    Units. On an axis a speed is in whole rpm and a torque in whole Nm, both at
-   the wheel. Entries and losses: hundredths of Nm. A question's speed: tenths of
-   rpm; its torque: hundredths of Nm.
+   the wheel. Entries, losses and measured torques: hundredths of Nm. A question's
+   speed: tenths of rpm; its torque: hundredths of Nm.
 
    Component data says its kind: 1 standard, 2 measured with one sensor at the
    output, 3 measured with one on each half-shaft, left and right, whose torques
@@ -26,10 +26,12 @@
    buffer; the library keeps no pointer after a call, allocates nothing, and has
    no state, so calls may run at the same time.
 
-   Refusals, by number, with their place:
+   Refusals, by number, with their place. Numbers that axle_write refuses stand
+   at no offset: its 3 to 10 have place 0.
      1 a head or a body that the end of the data cuts off; 2 another tag than the
        one due, or data that ends before the field; 3 a length that the field
-       cannot have: the head's offset
+       cannot have (of axle_write: a count of axis numbers or of row torques that
+       there cannot be): the head's offset
      4 a number that is not in its range; 5 an axis number that does not rise;
        6 a first torque above the step to the second; 7 a measured torque (input,
        output; of kind 3 input, left, right) above its sensor's nominal torque;
@@ -41,7 +43,8 @@
        listing: how many are needed
      12 data that goes on past the last field: the next byte's offset
      20 a speed below or above its axis; 21 a torque above its axis: 0
-     22 what is lent is no map: 0 */
+     22 what is lent is no map: 0
+     30 a lent buffer shorter than the file: the length needed */
 #ifndef AXLE_H
 #define AXLE_H
 
@@ -52,8 +55,10 @@
 extern "C" {
 #endif
 
-/* No map has more speeds, torques or entries, and no listing more bytes. */
-enum { AXLE_SPEEDS = 32, AXLE_TORQUES = 64, AXLE_ENTRIES = 2048, AXLE_TEXT = 65536 };
+/* No map has more speeds, torques or entries; no listing, and no file of component
+   data, has more bytes. */
+enum { AXLE_SPEEDS = 32, AXLE_TORQUES = 64, AXLE_ENTRIES = 2048, AXLE_TEXT = 65536,
+       AXLE_FILE = 24853 };
 
 typedef struct {
     uint32_t refusal;
@@ -81,7 +86,27 @@ typedef struct {
     uint32_t refusal;
     size_t place;
     size_t length; /* bytes written */
-} axle_listing_answer;
+} axle_length_answer;
+
+typedef axle_length_answer axle_listing_answer;
+
+typedef axle_length_answer axle_write_answer;
+
+/* The numbers of component data, but for its rows. A sensor's nine numbers are
+   N, w, z, c, k, s, p, d, R in the order of the data; docs/FORMAT.md has their
+   meanings and ranges. */
+typedef struct {
+    uint16_t kind;  /* 1 to 3 */
+    uint16_t line;  /* 1 to 5: SR, SRT, SP, HR, HRT */
+    uint16_t ratio; /* thousandths */
+    uint16_t speeds[32]; /* what stands past the first speed_count means nothing */
+    size_t speed_count;
+    uint16_t torques[64]; /* what stands past the first torque_count means nothing */
+    size_t torque_count;
+    uint16_t input[9];  /* of kinds 2 and 3 */
+    uint16_t output[9]; /* of kinds 2 and 3; of kind 3 the left one */
+    uint16_t right[9];  /* of kind 3 */
+} axle_numbers;
 
 /* Builds the map of component data. Entry (speed i, torque j) is written to
    entries[i * torque_count + j]; what stands past the last is not touched, and
@@ -111,6 +136,22 @@ axle_listing_answer axle_listing(const uint16_t speeds[32], size_t speed_count,
                                  const uint16_t torques[64], size_t torque_count,
                                  const uint32_t *entries, size_t entry_count,
                                  uint8_t *text, size_t text_length);
+
+/* Writes the file that says these numbers, from the start of the buffer. The rows
+   are one run of torques in the order of the file: all points of the first speed,
+   then those of the next; of each the input and the output torque, of kind 3 the
+   input, the left and the right torque. Of kind 1 sensors and rows are not looked
+   at, not even how many torques there are; of kind 2 the right sensor is not.
+   A file that was written builds and says the same numbers, and data that a build
+   accepts is the same bytes when its numbers are written again. With AXLE_FILE
+   bytes lent, numbers are refused only where no data that says them builds.
+   What stands past the file's length is not touched, and a refused call writes
+   nothing. Refusals, in this order: kind, line and ratio 4; speeds 3, then number
+   by number 4, 5; torques the same, then 6; sensors 4; the count of row torques
+   3; row by row 7 to 10; the buffer 30. */
+axle_write_answer axle_write(axle_numbers numbers,
+                             const uint32_t *rows, size_t row_torque_count,
+                             uint8_t *file, size_t file_length);
 
 #ifdef __cplusplus
 }

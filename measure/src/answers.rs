@@ -1,9 +1,12 @@
 //! The answers of the library `axle` to the generated cases, as the text that the second implementation writes for them.
 
-use axle::{Grid, Refusal};
+use axle::{Grid, Numbers, Refusal, Sensor};
 use reference::cases::Case;
+use reference::component;
 use reference::lookup::{Axis, LentMap};
 use reference::questions::Question;
+use reference::reply::{written_again, written_lines};
+use reference::writer::HandedNumbers;
 use std::fmt::Write;
 
 /// What entries and bytes hold before they are lent.
@@ -13,20 +16,29 @@ const LENT_BYTE: u8 = 0xA5;
 /// Buffers that are lent again for each case.
 pub struct Lent {
     entries: Vec<u32>,
-    text: Vec<u8>,
+    /// For a listing or a file.
+    bytes: Vec<u8>,
 }
 
 impl Default for Lent {
     fn default() -> Lent {
         Lent {
             entries: vec![LENT_ENTRY; 2_048],
-            text: vec![LENT_BYTE; 65_536],
+            bytes: vec![LENT_BYTE; 65_536],
         }
     }
 }
 
 fn kept(name: &str, kept: bool) -> String {
     format!("{name} {}\n", if kept { "kept" } else { "changed" })
+}
+
+/// Whether the bytes past an answer's length are as they were lent; after that all of them are so again.
+fn kept_past(name: &str, bytes: &mut [u8], length: usize) -> String {
+    let as_lent = bytes[length..].iter().all(|byte| *byte == LENT_BYTE);
+    let changed = if as_lent { length } else { bytes.len() };
+    bytes[..changed].fill(LENT_BYTE);
+    kept(name, as_lent)
 }
 
 fn refused(refusal: Refusal) -> String {
@@ -51,8 +63,9 @@ pub fn answer(case: &Case, lent: &mut Lent) -> Vec<u8> {
             &map.entries,
             *room,
             questions,
-            &mut lent.text,
+            &mut lent.bytes,
         ),
+        Case::Write { numbers, room } => write_answer(numbers, *room, &mut lent.bytes).into_bytes(),
         Case::Read(data) | Case::Program(data) => build_answer(data, 2_048, 65_536, &[], lent),
     }
 }
@@ -70,8 +83,9 @@ fn build_answer(
         Ok(grid) => {
             let count = grid.speed_count * grid.torque_count;
             let mut answer = kept("entries", as_lent(&lent.entries[count..])).into_bytes();
+            answer.extend(data_written_again(data).bytes());
             let entries = &lent.entries[..entries];
-            answer.extend(map_answer(&grid, entries, room, questions, &mut lent.text));
+            answer.extend(map_answer(&grid, entries, room, questions, &mut lent.bytes));
             answer
         }
     };
@@ -84,18 +98,13 @@ fn map_answer(
     entries: &[u32],
     room: usize,
     questions: &[Question],
-    text: &mut [u8],
+    bytes: &mut [u8],
 ) -> Vec<u8> {
-    let (mut answer, length) = match axle::listing(grid, entries, &mut text[..room]) {
-        Ok(length) => (text[..length].to_vec(), length),
+    let (mut answer, length) = match axle::listing(grid, entries, &mut bytes[..room]) {
+        Ok(length) => (bytes[..length].to_vec(), length),
         Err(refusal) => (refused(refusal).into_bytes(), 0),
     };
-    let as_lent = text[length..].iter().all(|byte| *byte == LENT_BYTE);
-    answer.extend(kept("text", as_lent).bytes());
-    text[..length].fill(LENT_BYTE);
-    if !as_lent {
-        text.fill(LENT_BYTE);
-    }
+    answer.extend(kept_past("text", bytes, length).bytes());
     for question in questions {
         answer.extend(question_answer(grid, entries, *question).bytes());
     }
@@ -115,6 +124,27 @@ fn question_answer(grid: &Grid, entries: &[u32], question: Question) -> String {
     lines
 }
 
+/// The numbers of data that the library built, read by the second implementation and written by the library.
+fn data_written_again(data: &[u8]) -> &'static str {
+    match component::read(data) {
+        Ok(component) => written_again(data, &component, write),
+        Err(_) => "not read\n",
+    }
+}
+
+fn write_answer(numbers: &HandedNumbers, room: usize, bytes: &mut [u8]) -> String {
+    let (lines, length) = match write(numbers, &mut bytes[..room]) {
+        Ok(length) => (written_lines(&bytes[..length]), length),
+        Err(refusal) => (refused(refusal), 0),
+    };
+    lines + &kept_past("file", bytes, length)
+}
+
+fn write(handed: &HandedNumbers, file: &mut [u8]) -> Result<usize, Refusal> {
+    let (numbers, grid) = numbers_of(handed);
+    numbers.write_on_grid(&grid, file)
+}
+
 /// The places of an axis in an array.
 fn places<const N: usize>(axis: &Axis) -> [u16; N] {
     let mut places = [0; N];
@@ -124,11 +154,52 @@ fn places<const N: usize>(axis: &Axis) -> [u16; N] {
     places
 }
 
-pub fn grid_of(map: &LentMap) -> Grid {
+/// All places of both axes, and their counts, which may be any.
+fn grid_on(speeds: &Axis, torques: &Axis) -> Grid {
     Grid {
-        speeds: places(&map.speeds),
-        speed_count: map.speeds.count,
-        torques: places(&map.torques),
-        torque_count: map.torques.count,
+        speeds: places(speeds),
+        speed_count: speeds.count,
+        torques: places(torques),
+        torque_count: torques.count,
+    }
+}
+
+pub fn grid_of(map: &LentMap) -> Grid {
+    grid_on(&map.speeds, &map.torques)
+}
+
+/// The numbers as the library takes them; the axes are in the grid alone.
+pub fn numbers_of(handed: &HandedNumbers) -> (Numbers, Grid) {
+    let [input, output, right] = handed.sensors.map(Sensor::from);
+    let numbers = Numbers {
+        kind: handed.kind,
+        line: handed.line,
+        ratio: handed.ratio,
+        input,
+        output,
+        right,
+        rows: handed.row_torques.clone(),
+        ..Numbers::default()
+    };
+    (numbers, grid_on(&handed.speeds, &handed.torques))
+}
+
+#[cfg(test)]
+mod tests {
+    use super::*;
+
+    #[test]
+    fn a_changed_byte_is_told_and_lent_anew() {
+        let lent = [LENT_BYTE; 5];
+        for (place, told) in [
+            (1, "file kept\n"),
+            (2, "file changed\n"),
+            (4, "file changed\n"),
+        ] {
+            let mut bytes = lent;
+            bytes[place] = 0;
+            assert_eq!(kept_past("file", &mut bytes, 2), told);
+            assert_eq!(bytes, lent);
+        }
     }
 }

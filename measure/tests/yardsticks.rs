@@ -2,11 +2,13 @@
 
 use measure::answers::{answer, Lent};
 use measure::{doubles, plain, roots};
-use reference::cases::{by_chance, Case};
+use reference::at_scale;
+use reference::cases::Case;
 use reference::faults::row_faults;
 use reference::random::Source;
 use reference::reply::{reply, Seen};
-use reference::{map, valid};
+use reference::stored::WRITE_REFUSALS;
+use reference::{map, valid, write_cases};
 use std::path::PathBuf;
 
 fn example(name: &str) -> Vec<u8> {
@@ -120,15 +122,18 @@ fn roots_are_the_least_that_reach() {
 #[test]
 fn the_library_answers_cases_in_the_text_of_the_second_implementation() {
     let (mut seen, mut lent) = (Seen::default(), Lent::default());
-    for number in 0..500 {
-        let case = by_chance(11, number, false);
-        if matches!(case, Case::Build { .. } | Case::Map { .. }) {
-            assert_eq!(
-                answer(&case, &mut lent),
-                reply(&case, &mut seen),
-                "{number}"
-            );
+    let mut cases = write_cases::systematic(11);
+    cases.extend((0..500).map(|number| at_scale::by_chance(11, number)));
+    for (number, case) in cases.iter().enumerate() {
+        // The library does not export the reader or the program's report.
+        if !matches!(case, Case::Read(_) | Case::Program(_)) {
+            let ours = answer(case, &mut lent);
+            assert_eq!(ours, reply(case, &mut seen), "{number}");
         }
     }
     assert!((1..=3).all(|kind| seen.maps_of(kind) > 0) && !seen.refusals.is_empty());
+    assert!((1..=3).all(|kind| seen.writes.files_of(kind) > 0));
+    assert!(WRITE_REFUSALS
+        .iter()
+        .all(|number| seen.writes.refused_with(*number) > 0));
 }

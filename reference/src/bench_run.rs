@@ -58,13 +58,7 @@ pub fn data() -> Data {
             rows.push(row(&mut source, *speed, *torque));
         }
     }
-    let mut fields = vec![
-        Field::new(1, vec![2]),
-        Field::new(2, vec![1]),
-        Field::of_numbers(3, &[RATIO]),
-        Field::of_numbers(4, &speeds),
-        Field::of_numbers(5, &torques),
-    ];
+    let mut fields = Field::of_every_kind(2, 1, RATIO, &speeds, &torques);
     let sensors = [INPUT_SENSOR, OUTPUT_SENSOR];
     fields.extend(Field::of_measurement(2, &sensors, &rows));
     Data::of(fields)

@@ -3,10 +3,11 @@
 use crate::data::Data;
 use crate::lent_maps::{self, BREAKS};
 use crate::listing::listing;
-use crate::lookup::LentMap;
+use crate::lookup::{Axis, LentMap};
 use crate::map;
 use crate::questions::{questions, Question};
 use crate::random::Source;
+use crate::writer::HandedNumbers;
 use crate::{faults, valid};
 
 pub use crate::listing::MOST_ENTRIES;
@@ -31,6 +32,8 @@ pub enum Case {
         room: usize,
         questions: Vec<Question>,
     },
+    /// Numbers written as component data into so many lent bytes.
+    Write { numbers: HandedNumbers, room: usize },
 }
 
 impl Case {
@@ -40,6 +43,7 @@ impl Case {
             Case::Program(_) => 'p',
             Case::Build { .. } => 'b',
             Case::Map { .. } => 'm',
+            Case::Write { .. } => 'w',
         }
     }
 
@@ -68,6 +72,7 @@ impl Case {
                 room,
                 questions,
             } => (map.entries.len(), *room, map_bytes(map), questions),
+            Case::Write { numbers, room } => (0, *room, handed_bytes(numbers), &[]),
         };
         let mut bytes = vec![self.letter() as u8];
         bytes.extend((entries as u16).to_be_bytes());
@@ -84,20 +89,37 @@ impl Case {
 }
 
 fn map_bytes(map: &LentMap) -> Vec<u8> {
-    let mut bytes = Vec::new();
-    bytes.extend((map.speeds.count as u64).to_be_bytes());
-    bytes.extend((map.torques.count as u64).to_be_bytes());
-    for number in map.speeds.numbers.iter().chain(&map.torques.numbers) {
+    let mut bytes = axes_bytes(&map.speeds, &map.torques);
+    bytes.extend(map.entries.iter().flat_map(|entry| entry.to_be_bytes()));
+    bytes
+}
+
+/// Both counts, then all places of both axes.
+fn axes_bytes(speeds: &Axis, torques: &Axis) -> Vec<u8> {
+    let counts = [speeds.count as u64, torques.count as u64];
+    let mut bytes = counts.map(u64::to_be_bytes).concat();
+    for number in speeds.numbers.iter().chain(&torques.numbers) {
         bytes.extend(number.to_be_bytes());
-    }
-    for entry in &map.entries {
-        bytes.extend(entry.to_be_bytes());
     }
     bytes
 }
 
-/// Lent bytes for a listing: most often enough, else just enough, just too few, or any number.
-fn room_for(source: &mut Source, needed: usize) -> usize {
+/// Kind, line and ratio, the axes, the sensors and the row torques.
+fn handed_bytes(numbers: &HandedNumbers) -> Vec<u8> {
+    let first = [numbers.kind, numbers.line, numbers.ratio];
+    let mut bytes = first.map(u16::to_be_bytes).concat();
+    bytes.extend(axes_bytes(&numbers.speeds, &numbers.torques));
+    for number in numbers.sensors.as_flattened() {
+        bytes.extend(number.to_be_bytes());
+    }
+    for torque in &numbers.row_torques {
+        bytes.extend(torque.to_be_bytes());
+    }
+    bytes
+}
+
+/// Lent bytes for a listing or a file: most often enough, else just enough, just too few, or any number.
+pub fn room_for(source: &mut Source, needed: usize) -> usize {
     match source.below(12) {
         0 => needed,
         1 => needed - 1,
@@ -165,9 +187,7 @@ fn entry_limits(source: &mut Source, kind: u8) -> Vec<Vec<u8>> {
     loop {
         let (mut data, row) = data_and_row(source, kind);
         if data.numbers(3)[0] >= 4_000 {
-            if let Some(input_sensor) = data.field_mut(6) {
-                input_sensor.set_number(0, 50_000);
-            }
+            faults::raise_input_limit(&mut data);
             return faults::row_faults(&data, row);
         }
     }
@@ -230,9 +250,7 @@ pub fn by_chance(seed: u64, number: u64, large_maps: bool) -> Case {
     let mut source = Source::new(seed, number);
     let source = &mut source;
     if large_maps && source.once_in(300) {
-        let kind = source.between(1, 3) as u8;
-        let (speeds, torques) = (source.with_ends(2, 32), source.with_ends(2, 64));
-        let data = valid::data_of(source, kind, speeds as usize, torques as usize);
+        let data = valid::large_data(source);
         return asked_build(source, &data, 60);
     }
     let data = valid::data(source);

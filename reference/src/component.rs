@@ -4,6 +4,10 @@
 use crate::refusal::Refusal;
 use std::ops::RangeInclusive;
 
+pub(crate) const KIND_RANGE: RangeInclusive<u16> = 1..=3;
+pub(crate) const LINE_RANGE: RangeInclusive<u16> = 1..=5;
+pub(crate) const RATIO_RANGE: RangeInclusive<u16> = 1_000..=20_000;
+
 /// The rules of an axis: how many numbers it has, and their range.
 pub(crate) struct AxisRule {
     pub(crate) count: RangeInclusive<usize>,
@@ -70,6 +74,40 @@ pub struct Sensor {
 }
 
 impl Sensor {
+    /// The sensor of nine numbers in their order, or the place among them, from 0,
+    /// of the first that is outside its range.
+    pub fn of(numbers: [u16; 9]) -> Result<Sensor, usize> {
+        const PPM: RangeInclusive<u16> = 0..=10_000;
+        let ranges = [
+            1..=50_000,
+            PPM,
+            PPM,
+            PPM,
+            1_000..=10_000,
+            PPM,
+            0..=1_000,
+            0..=500,
+            10..=100,
+        ];
+        let outside = |place: &usize| !ranges[*place].contains(&numbers[*place]);
+        if let Some(place) = (0..numbers.len()).find(outside) {
+            return Err(place);
+        }
+        let [nominal, sensitivity, zero, calibration, advancement, parasitic, share, difference, span] =
+            numbers;
+        Ok(Sensor {
+            nominal,
+            sensitivity,
+            zero,
+            calibration,
+            advancement,
+            parasitic,
+            share,
+            difference,
+            span,
+        })
+    }
+
     /// The nine numbers in their order: N, w, z, c, k, s, p, d, R.
     pub fn numbers(&self) -> [u16; 9] {
         [
@@ -230,9 +268,9 @@ impl Field<'_> {
     }
 
     /// The only byte of a one-byte body.
-    fn byte_within(self, range: RangeInclusive<u8>) -> Result<u8, Refusal> {
+    fn byte_within(self, range: RangeInclusive<u16>) -> Result<u8, Refusal> {
         let byte = self.body[0];
-        if !range.contains(&byte) {
+        if !range.contains(&u16::from(byte)) {
             return Err(Refusal::at(4, self.start));
         }
         Ok(byte)
@@ -252,18 +290,8 @@ impl Field<'_> {
     }
 
     fn sensor(self) -> Result<Sensor, Refusal> {
-        let ppm = 0..=10_000;
-        Ok(Sensor {
-            nominal: self.number_within(0, &(1..=50_000))?,
-            sensitivity: self.number_within(2, &ppm)?,
-            zero: self.number_within(4, &ppm)?,
-            calibration: self.number_within(6, &ppm)?,
-            advancement: self.number_within(8, &(1_000..=10_000))?,
-            parasitic: self.number_within(10, &ppm)?,
-            share: self.number_within(12, &(0..=1_000))?,
-            difference: self.number_within(14, &(0..=500))?,
-            span: self.number_within(16, &(10..=100))?,
-        })
+        let numbers = std::array::from_fn(|place| self.number(2 * place).0);
+        Sensor::of(numbers).map_err(|place| Refusal::at(4, self.start + 2 * place))
     }
 
     /// Rows of so many bytes.
@@ -286,11 +314,11 @@ impl Field<'_> {
 pub fn read(data: &[u8]) -> Result<Component, Refusal> {
     let start = Cursor { data, offset: 0 };
     let (field, cursor) = start.field(1, |length| length == 1)?;
-    let kind_number = field.byte_within(1..=3)?;
+    let kind_number = field.byte_within(KIND_RANGE)?;
     let (field, cursor) = cursor.field(2, |length| length == 1)?;
-    let line = field.byte_within(1..=5)?;
+    let line = field.byte_within(LINE_RANGE)?;
     let (field, cursor) = cursor.field(3, |length| length == 2)?;
-    let ratio = field.number_within(0, &(1_000..=20_000))?;
+    let ratio = field.number_within(0, &RATIO_RANGE)?;
     let (field, cursor) = cursor.field(4, |length| axis_length(&SPEED_RULE, length))?;
     let speeds = field.axis(&SPEED_RULE.range)?;
     let (field, cursor) = cursor.field(5, |length| axis_length(&TORQUE_RULE, length))?;

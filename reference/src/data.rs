@@ -37,6 +37,23 @@ impl Field {
         Field::new(tag, numbers.iter().flat_map(|n| n.to_be_bytes()).collect())
     }
 
+    /// Tags 1 to 5, which every kind has.
+    pub fn of_every_kind(
+        kind: u8,
+        line: u8,
+        ratio: u16,
+        speeds: &[u16],
+        torques: &[u16],
+    ) -> Vec<Field> {
+        vec![
+            Field::new(1, vec![kind]),
+            Field::new(2, vec![line]),
+            Field::of_numbers(3, &[ratio]),
+            Field::of_numbers(4, speeds),
+            Field::of_numbers(5, torques),
+        ]
+    }
+
     /// Tag 8 or 10: the torques of each row.
     fn of_rows(tag: u8, rows: &[impl AsRef<[u32]>]) -> Field {
         let bytes = rows
@@ -88,18 +105,23 @@ impl Field {
         self.body[index * width..][..width].copy_from_slice(&bytes[4 - width..]);
     }
 
-    /// The range of a number of the field; a row's numbers have none.
+    /// The range of a number of the field.
     pub fn range(&self, index: usize) -> Option<(u32, u32)> {
-        let (lowest, highest) = match self.tag {
-            1 => (1, 3),
-            2 => (1, 5),
-            3 => (1_000, 20_000),
-            4 => (1, 3_000),
-            5 => (0, 50_000),
-            6 | 7 | 9 => SENSOR_RANGES[index],
-            _ => return None,
-        };
+        let (lowest, highest) = range(self.tag, index)?;
         Some((u32::from(lowest), u32::from(highest)))
+    }
+}
+
+/// The least and the largest value of a number under a tag; a row's numbers have none.
+pub fn range(tag: u8, index: usize) -> Option<(u16, u16)> {
+    match tag {
+        1 => Some((1, 3)),
+        2 => Some((1, 5)),
+        3 => Some((1_000, 20_000)),
+        4 => Some((1, 3_000)),
+        5 => Some((0, 50_000)),
+        6 | 7 | 9 => Some(SENSOR_RANGES[index]),
+        _ => None,
     }
 }
 

@@ -208,13 +208,7 @@ const SPEEDS: [u16; 2] = [100, 200];
 
 /// The fields that every kind has, with the torques 0 and this one.
 fn common_fields(kind: u8, line: u8, ratio: u16, torque: u16) -> Vec<Field> {
-    vec![
-        Field::new(1, vec![kind]),
-        Field::new(2, vec![line]),
-        Field::of_numbers(3, &[ratio]),
-        Field::of_numbers(4, &SPEEDS),
-        Field::of_numbers(5, &[0, torque]),
-    ]
+    Field::of_every_kind(kind, line, ratio, &SPEEDS, &[0, torque])
 }
 
 /// The bounds of the entry at the second torque; the build must accept the data.

@@ -160,8 +160,20 @@ fn set(data: &mut Data, tag: u8, index: usize, number: u32) {
     }
 }
 
-/// Measured data with one row at each limit of the rows and just beyond it, where refusals 7 to 10 begin.
+/// The highest limit for the input sensor of measured data: a loss can then be above the largest entry, 10.
+pub fn raise_input_limit(data: &mut Data) {
+    set(data, 6, 0, 50_000);
+}
+
+/// Measured data with one row at each of its limits and just beyond it.
 pub fn row_faults(data: &Data, row: usize) -> Vec<Vec<u8>> {
+    let tags = measured_tags(data.kind()).expect("measured data");
+    let in_place = |torques: &Vec<u32>| changed(data, |d| set_row(d, tags.rows, row, torques));
+    rows_at_limits(data, row).iter().map(in_place).collect()
+}
+
+/// A row of measured data at each limit of the rows and just beyond it, where refusals 7 to 10 begin.
+pub fn rows_at_limits(data: &Data, row: usize) -> Vec<Vec<u32>> {
     let tags = measured_tags(data.kind()).expect("measured data");
     let torques = data.numbers(5);
     let aim = 100 * torques[row % torques.len()];
@@ -182,8 +194,7 @@ pub fn row_faults(data: &Data, row: usize) -> Vec<Vec<u8>> {
     if let &[input, _, _] = before.as_slice() {
         rows.extend(side_limits(input, sum, aim));
     }
-    let in_place = |torques: &Vec<u32>| changed(data, |d| set_row(d, tags.rows, row, torques));
-    rows.iter().map(in_place).collect()
+    rows
 }
 
 /// Input torques at the sensor's limit, at a loss of zero and at the largest entry, for an output torque.

@@ -7,7 +7,7 @@ use crate::valid;
 const LARGEST_ENTRY: u64 = 10_000_000;
 
 /// So many places, the first of them these numbers, the rest by chance: they mean nothing.
-fn axis(source: &mut Source, numbers: &[u16], places: usize) -> Axis {
+pub fn axis(source: &mut Source, numbers: &[u16], places: usize) -> Axis {
     let mut all = numbers.to_vec();
     all.resize_with(places, || source.draw() as u16);
     Axis {

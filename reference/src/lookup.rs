@@ -10,10 +10,22 @@ const SPEED_UNIT: i128 = 10;
 const TORQUE_UNIT: i128 = 100;
 
 /// The places of an axis; only the first `count` mean something.
-#[derive(Clone, PartialEq, Eq, Debug)]
+#[derive(Clone, PartialEq, Eq, Hash, Debug)]
 pub struct Axis {
     pub numbers: Vec<u16>,
     pub count: usize,
+}
+
+impl Axis {
+    /// These numbers, padded with zeros to the most that the rule allows.
+    pub(crate) fn padded(numbers: &[u16], rule: &AxisRule) -> Axis {
+        let mut places = numbers.to_vec();
+        places.resize(*rule.count.end(), 0);
+        Axis {
+            numbers: places,
+            count: numbers.len(),
+        }
+    }
 }
 
 /// What a caller lends as a map. Nothing is known of it until it is tested.
@@ -29,19 +41,10 @@ impl LentMap {
     /// entries.
     pub fn of(map: &Map, entries: Vec<u32>) -> LentMap {
         LentMap {
-            speeds: padded(&map.speeds, &SPEED_RULE),
-            torques: padded(&map.torques, &TORQUE_RULE),
+            speeds: Axis::padded(&map.speeds, &SPEED_RULE),
+            torques: Axis::padded(&map.torques, &TORQUE_RULE),
             entries,
         }
-    }
-}
-
-fn padded(numbers: &[u16], rule: &AxisRule) -> Axis {
-    let mut places = numbers.to_vec();
-    places.resize(*rule.count.end(), 0);
-    Axis {
-        numbers: places,
-        count: numbers.len(),
     }
 }
 

@@ -33,7 +33,9 @@ pub fn build(data: &[u8], lent_entries: usize) -> Result<Map, Refusal> {
     }
     let entries = match &component.kind {
         Kind::Standard => standard_entries(&component),
-        Kind::Measured(measured) => measured_entries(&component, measured)?,
+        Kind::Measured(measured) => {
+            measured_entries(component.ratio, &component.torques, measured)?
+        }
     };
     Ok(Map {
         speeds: component.speeds,
@@ -55,14 +57,18 @@ fn standard_entries(component: &Component) -> Vec<u32> {
     row.repeat(component.speeds.len())
 }
 
-fn measured_entries(component: &Component, measured: &Measured) -> Result<Vec<u32>, Refusal> {
+/// The entries of the rows, or the refusal of the first row that breaks a rule.
+pub(crate) fn measured_entries(
+    ratio: u16,
+    torques: &[u16],
+    measured: &Measured,
+) -> Result<Vec<u32>, Refusal> {
     let mut entries = Vec::with_capacity(measured.rows.len());
     for (index, row) in measured.rows.iter().enumerate() {
         let place = measured.row_place(index);
-        let axis_torque = component.torques[index % component.torques.len()];
+        let axis_torque = torques[index % torques.len()];
         test_row(row, measured, axis_torque, place)?;
-        let entry =
-            loss::measured_entry(component.ratio, measured, row).ok_or(Refusal::at(9, place))?;
+        let entry = loss::measured_entry(ratio, measured, row).ok_or(Refusal::at(9, place))?;
         if entry > u128::from(LARGEST_ENTRY) {
             return Err(Refusal::at(10, place));
         }

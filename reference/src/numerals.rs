@@ -20,6 +20,16 @@ pub fn decimal(number: u128, digits: u32) -> String {
     format!("{}.{}", grouped(number / one), &after_point[1..])
 }
 
+/// The same as programs read it, without commas, and without a point where no digit comes after it: 1234567 with 2 as 12345.67.
+pub fn bare_decimal(number: u32, digits: u32) -> String {
+    if digits == 0 {
+        return number.to_string();
+    }
+    let one = 10_u32.pow(digits);
+    let (whole, after_point) = (number / one, number % one);
+    format!("{whole}.{after_point:0width$}", width = digits as usize)
+}
+
 /// A number that may be negative, its size written in one of these ways.
 pub fn signed(number: i128, size: impl Fn(u128) -> String) -> String {
     let sign = if number < 0 { "-" } else { "" };
@@ -64,6 +74,16 @@ mod tests {
         assert_eq!(decimal(5, 3), "0.005");
         assert_eq!(decimal(1_234_567, 2), "12,345.67");
         assert_eq!(decimal(123_456_700, 5), "1,234.56700");
+    }
+
+    #[test]
+    fn decimals_for_programs() {
+        assert_eq!(bare_decimal(1_234_567, 0), "1234567");
+        assert_eq!(bare_decimal(1_234_567, 2), "12345.67");
+        assert_eq!(bare_decimal(3_000, 3), "3.000");
+        assert_eq!(bare_decimal(5, 2), "0.05");
+        assert_eq!(bare_decimal(0, 2), "0.00");
+        assert_eq!(bare_decimal(u32::MAX, 2), "42949672.95");
     }
 
     #[test]

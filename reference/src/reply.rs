@@ -8,8 +8,10 @@ use crate::lookup::{self, LentMap};
 use crate::map::{self, Map};
 use crate::questions::Question;
 use crate::refusal::Refusal;
+use crate::writer::{self, HandedNumbers};
 use std::collections::{BTreeMap, BTreeSet};
 use std::fmt::Write;
+use std::hash::{BuildHasher, BuildHasherDefault, DefaultHasher};
 
 /// The largest and the smallest excess over the exact value, in millionths of a hundredth of Nm.
 #[derive(Default)]
@@ -29,10 +31,45 @@ impl Excess {
     }
 }
 
+/// How many different inputs of a write ended how.
+#[derive(Default)]
+pub struct Writes {
+    /// Hashes of the numbers and the room.
+    inputs: BTreeSet<u64>,
+    /// Files written, by the number of their kind.
+    files: BTreeMap<u8, u64>,
+    refusals: BTreeMap<u8, u64>,
+}
+
+impl Writes {
+    fn add(&mut self, numbers: &HandedNumbers, room: usize, answer: &Result<usize, Refusal>) {
+        let hasher = BuildHasherDefault::<DefaultHasher>::default();
+        if !self.inputs.insert(hasher.hash_one((numbers, room))) {
+            return;
+        }
+        let count = match answer {
+            Ok(_) => self.files.entry(numbers.kind as u8).or_default(),
+            Err(refusal) => self.refusals.entry(refusal.number).or_default(),
+        };
+        *count += 1;
+    }
+
+    /// How many files of a kind were written.
+    pub fn files_of(&self, kind: u8) -> u64 {
+        self.files.get(&kind).copied().unwrap_or(0)
+    }
+
+    /// How many writes were refused with a number.
+    pub fn refused_with(&self, number: u8) -> u64 {
+        self.refusals.get(&number).copied().unwrap_or(0)
+    }
+}
+
 /// How often what occurred.
 #[derive(Default)]
 pub struct Seen {
     pub cases: BTreeMap<char, u64>,
+    /// Those of writes are apart.
     pub refusals: BTreeMap<u8, u64>,
     pub places: BTreeMap<u8, BTreeSet<usize>>,
     /// Maps built, by the number of their kind.
@@ -42,6 +79,7 @@ pub struct Seen {
     pub entries: Excess,
     pub answers: Excess,
     pub answers_below: Excess,
+    pub writes: Writes,
 }
 
 impl Seen {
@@ -80,7 +118,29 @@ pub fn reply(case: &Case, seen: &mut Seen) -> Vec<u8> {
             room,
             questions,
         } => map_reply(map, *room, questions, None, seen),
+        Case::Write { numbers, room } => write_reply(numbers, *room, seen).into_bytes(),
     }
+}
+
+/// The bytes past the file, or all of them where there is none, are kept as they were.
+fn write_reply(numbers: &HandedNumbers, room: usize, seen: &mut Seen) -> String {
+    let mut buffer = vec![0; room];
+    let answer = writer::write(numbers, &mut buffer);
+    seen.writes.add(numbers, room, &answer);
+    let lines = match answer {
+        Ok(length) => written_lines(&buffer[..length]),
+        Err(refusal) => format!("{refusal}\n"),
+    };
+    lines + "file kept\n"
+}
+
+/// A file that was written: its length, and its bytes as hexadecimal digits.
+pub fn written_lines(file: &[u8]) -> String {
+    let mut lines = format!("written {}\n", file.len());
+    for byte in file {
+        let _ = write!(lines, "{byte:02X}");
+    }
+    lines + "\n"
 }
 
 /// Whatever is lent and is no part of the answer is kept as it was.
@@ -105,8 +165,25 @@ fn build_reply(
     lent_entries.resize(entries, 0);
     let lent = LentMap::of(&built, lent_entries);
     let mut text = b"entries kept\n".to_vec();
+    text.extend(written_again(data, &component, writer::write).bytes());
     text.extend(map_reply(&lent, room, questions, Some(&exact), seen));
     text
+}
+
+/// Whether the numbers of data that was read, written again in this way, are the same bytes.
+pub fn written_again<R>(
+    data: &[u8],
+    component: &Component,
+    write: impl FnOnce(&HandedNumbers, &mut [u8]) -> Result<usize, R>,
+) -> &'static str {
+    // Before the write no byte of the buffer is the right one.
+    let mut buffer: Vec<u8> = data.iter().map(|byte| !byte).collect();
+    let answer = write(&HandedNumbers::of(component), &mut buffer);
+    if answer.ok() == Some(data.len()) && buffer == data {
+        "written again\n"
+    } else {
+        "written otherwise\n"
+    }
 }
 
 fn map_reply(

@@ -2,20 +2,28 @@
 
 use crate::cases::{by_chance, systematic, Case, MOST_ENTRIES, MOST_TEXT};
 use crate::listing::report;
+use crate::lookup::Axis;
 use crate::questions::Question;
 use crate::random::Source;
-use crate::reply::{reply, Excess, Seen};
-use crate::valid;
+use crate::reply::{reply, Excess, Seen, Writes};
+use crate::writer::HandedNumbers;
+use crate::{valid, write_cases};
 use std::fmt;
 
 const SEED: u64 = 20_172_400;
 const CASES_BY_CHANCE: u64 = 2_500;
+const WRITES_BY_CHANCE: u64 = 240;
 
 /// Chosen among many: its data is accepted, no number of a sensor is 0, and most entries differ from each other.
 const MAP_PROGRAM_CASE: u64 = 8_283;
 
 /// Every refusal of the table.
 pub const REFUSALS: [u8; 15] = [1, 2, 3, 4, 5, 6, 7, 8, 9, 10, 11, 12, 20, 21, 22];
+
+/// Every refusal of a write.
+pub const WRITE_REFUSALS: [u8; 9] = [3, 4, 5, 6, 7, 8, 9, 10, 30];
+
+const KINDS: [u8; 3] = [1, 2, 3];
 
 /// The lines of cases/cases.txt: a letter and bytes in hexadecimal digits, or a comment.
 pub fn written_by_hand() -> Vec<(char, Vec<u8>)> {
@@ -40,20 +48,58 @@ fn bytes_of(digits: &str) -> Vec<u8> {
         .collect()
 }
 
+/// A number, its most significant byte first.
+fn number_of(bytes: &[u8]) -> u64 {
+    bytes.iter().fold(0, |n, byte| n << 8 | u64::from(*byte))
+}
+
 /// A question before its data: speed and torque, four bytes each.
 pub fn question_of(bytes: &[u8]) -> (Question, &[u8]) {
-    let number = |at: usize| u32::from_be_bytes(bytes[at..at + 4].try_into().expect("four bytes"));
     let question = Question {
-        speed: number(0),
-        torque: number(4),
+        speed: number_of(&bytes[..4]) as u32,
+        torque: number_of(&bytes[4..8]) as u32,
     };
     (question, &bytes[8..])
+}
+
+/// A write: how many bytes are lent, in four bytes, then the body of its case.
+pub fn write_of(bytes: &[u8]) -> (usize, HandedNumbers) {
+    let mut rest = bytes;
+    let mut next = |width: usize| {
+        let (number, behind) = rest.split_at(width);
+        rest = behind;
+        number_of(number)
+    };
+    let room = next(4) as usize;
+    let [kind, line, ratio] = [(); 3].map(|()| next(2) as u16);
+    let counts = [(); 2].map(|()| next(8) as usize);
+    let mut axis = |count: usize, places: usize| Axis {
+        numbers: (0..places).map(|_| next(2) as u16).collect(),
+        count,
+    };
+    let (speeds, torques) = (axis(counts[0], 32), axis(counts[1], 64));
+    let sensors = [(); 3].map(|()| [(); 9].map(|()| next(2) as u16));
+    let row_torques = rest.chunks_exact(4);
+    let numbers = HandedNumbers {
+        kind,
+        line,
+        ratio,
+        speeds,
+        torques,
+        sensors,
+        row_torques: row_torques.map(|bytes| number_of(bytes) as u32).collect(),
+    };
+    (room, numbers)
 }
 
 fn hand_case((letter, bytes): (char, Vec<u8>)) -> Case {
     match letter {
         'r' => Case::Read(bytes),
         'm' => Case::Program(bytes),
+        'w' => {
+            let (room, numbers) = write_of(&bytes);
+            Case::Write { numbers, room }
+        }
         _ => {
             let (question, data) = question_of(&bytes);
             Case::Build {
@@ -66,11 +112,16 @@ fn hand_case((letter, bytes): (char, Vec<u8>)) -> Case {
     }
 }
 
-/// All stored cases, in their order.
+/// All stored cases, in their order. The writes are behind all others, which thereby stay as they were before there were writes.
 pub fn stored_cases() -> Vec<Case> {
-    let mut cases: Vec<Case> = written_by_hand().into_iter().map(hand_case).collect();
+    let by_hand = written_by_hand().into_iter().map(hand_case);
+    let (mut cases, writes): (Vec<Case>, _) = by_hand.partition(|case| case.letter() != 'w');
     cases.extend(systematic(SEED));
     cases.extend((0..CASES_BY_CHANCE).map(|number| by_chance(SEED, number, false)));
+    cases.extend(writes);
+    cases.extend(write_cases::systematic(SEED));
+    let write = |number| write_cases::by_chance(SEED, number, false);
+    cases.extend((0..WRITES_BY_CHANCE).map(write));
     cases
 }
 
@@ -97,8 +148,7 @@ pub fn map_program_run() -> (Vec<u8>, Vec<u8>) {
 pub fn missing(seen: &Seen) -> Vec<String> {
     let mut missing = Vec::new();
     for number in REFUSALS {
-        let count = seen.refusals.get(&number).copied().unwrap_or(0);
-        let places = seen.places.get(&number).map_or(0, |places| places.len());
+        let (count, places) = refusals_and_places(seen, number);
         // 20 to 22 have one place, 0.
         let enough = if number < 20 {
             places >= 20
@@ -111,17 +161,25 @@ pub fn missing(seen: &Seen) -> Vec<String> {
             ));
         }
     }
-    for (name, count) in [
-        ("maps of kind 1", seen.maps_of(1)),
-        ("maps of kind 2", seen.maps_of(2)),
-        ("maps of kind 3", seen.maps_of(3)),
-        ("negative losses", seen.negative_losses),
-    ] {
-        if count < 20 {
-            missing.push(format!("{name}: {count}"));
-        }
+    let mut counts = vec![("negative losses".to_string(), seen.negative_losses)];
+    for kind in KINDS {
+        counts.push((format!("maps of kind {kind}"), seen.maps_of(kind)));
+        counts.push((format!("files of kind {kind}"), seen.writes.files_of(kind)));
     }
+    for number in WRITE_REFUSALS {
+        let count = seen.writes.refused_with(number);
+        counts.push((format!("writes refused with {number}"), count));
+    }
+    let too_few = counts.iter().filter(|(_, count)| *count < 20);
+    missing.extend(too_few.map(|(name, count)| format!("{name}: {count}")));
     missing
+}
+
+/// How often a number of the table occurred, and at how many places.
+fn refusals_and_places(seen: &Seen, number: u8) -> (u64, usize) {
+    let count = seen.refusals.get(&number).copied().unwrap_or(0);
+    let places = seen.places.get(&number).map_or(0, |places| places.len());
+    (count, places)
 }
 
 /// Entries and answers outside the limits of demand 3.
@@ -147,6 +205,14 @@ fn excess_line(f: &mut fmt::Formatter, name: &str, excess: &Excess) -> fmt::Resu
     )
 }
 
+/// A count for each kind.
+fn by_kind(count: impl Fn(u8) -> u64) -> String {
+    let [standard, two_sensors, three_sensors] = KINDS.map(count);
+    format!(
+        "{standard} standard, {two_sensors} measured (kind 2), {three_sensors} measured (kind 3)"
+    )
+}
+
 impl fmt::Display for Seen {
     fn fmt(&self, f: &mut fmt::Formatter) -> fmt::Result {
         for (letter, name) in [
@@ -154,30 +220,37 @@ impl fmt::Display for Seen {
             ('p', "data for the map program"),
             ('b', "data built"),
             ('m', "maps lent"),
+            ('w', "numbers handed to the writer"),
         ] {
             if let Some(count) = self.cases.get(&letter) {
                 writeln!(f, "{name}: {count}")?;
             }
         }
-        writeln!(
-            f,
-            "maps built: {} standard, {} measured (kind 2), {} measured (kind 3)",
-            self.maps_of(1),
-            self.maps_of(2),
-            self.maps_of(3)
-        )?;
+        writeln!(f, "maps built: {}", by_kind(|kind| self.maps_of(kind)))?;
         writeln!(
             f,
             "losses at a point: {}, of these negative: {}",
             self.losses, self.negative_losses
         )?;
         for number in REFUSALS {
-            let count = self.refusals.get(&number).copied().unwrap_or(0);
-            let places = self.places.get(&number).map_or(0, |places| places.len());
+            let (count, places) = refusals_and_places(self, number);
             writeln!(f, "refusal {number}: {count} at {places} places")?;
         }
+        self.writes.fmt(f)?;
         excess_line(f, "entries", &self.entries)?;
         excess_line(f, "answers from the first torque upwards", &self.answers)?;
         excess_line(f, "answers below the first torque", &self.answers_below)
+    }
+}
+
+impl fmt::Display for Writes {
+    fn fmt(&self, f: &mut fmt::Formatter) -> fmt::Result {
+        let files = by_kind(|kind| self.files_of(kind));
+        writeln!(f, "files written of different inputs: {files}")?;
+        for number in WRITE_REFUSALS {
+            let count = self.refused_with(number);
+            writeln!(f, "refusal {number} of a write: {count} different inputs")?;
+        }
+        Ok(())
     }
 }

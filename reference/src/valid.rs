@@ -158,13 +158,9 @@ pub fn data_of(source: &mut Source, kind: u8, speed_count: usize, torque_count: 
         _ => source.with_ends(1_000, 20_000),
     };
     let torques = torques(source, torque_count);
-    let mut fields = vec![
-        Field::new(1, vec![kind]),
-        Field::new(2, vec![source.between(1, 5) as u8]),
-        Field::of_numbers(3, &[ratio as u16]),
-        Field::of_numbers(4, &speeds(source, speed_count)),
-        Field::of_numbers(5, &torques),
-    ];
+    let line = source.between(1, 5) as u8;
+    let speeds = speeds(source, speed_count);
+    let mut fields = Field::of_every_kind(kind, line, ratio as u16, &speeds, &torques);
     if let Some(tags) = measured_tags(kind) {
         let outputs = tags.outputs.len() as u64;
         let (sensors, rows) = measurement(source, outputs, ratio, speed_count, &torques);
@@ -178,4 +174,11 @@ pub fn data(source: &mut Source) -> Data {
     let kind = source.one_of(&[1, 1, 2, 2, 2, 3, 3, 3]);
     let (speeds, torques) = grid_size(source);
     data_of(source, kind, speeds, torques)
+}
+
+/// Data of any kind and any size up to the largest.
+pub fn large_data(source: &mut Source) -> Data {
+    let kind = source.between(1, 3) as u8;
+    let (speeds, torques) = (source.with_ends(2, 32), source.with_ends(2, 64));
+    data_of(source, kind, speeds as usize, torques as usize)
 }

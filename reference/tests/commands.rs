@@ -252,13 +252,13 @@ fn examples_are_made_and_checked() {
     let path = folder.to_str().unwrap();
     let count = |text: &str, verdict: &str| text.matches(verdict).count();
     let (stdout, stderr, code) = ended(run(MAKE_EXAMPLES, &["--check", path]));
-    assert_eq!((count(&stdout, ": is missing\n"), code), (12, Some(1)));
-    assert_eq!(stderr, "12 files differ, 0 are none of the examples\n");
+    assert_eq!((count(&stdout, ": is missing\n"), code), (16, Some(1)));
+    assert_eq!(stderr, "16 files differ, 0 are none of the examples\n");
     assert_eq!(fs::read_dir(&folder).unwrap().count(), 0);
     let (_, stderr, code) = ended(run(MAKE_EXAMPLES, &[path]));
     assert_eq!((stderr.as_str(), code), ("", Some(0)));
     let (stdout, stderr, code) = ended(run(MAKE_EXAMPLES, &["--check", path]));
-    assert_eq!((count(&stdout, ": is the same\n"), code), (12, Some(0)));
+    assert_eq!((count(&stdout, ": is the same\n"), code), (16, Some(0)));
     assert_eq!(stderr, "");
     for file in files() {
         assert_eq!(fs::read(folder.join(file.name)).unwrap(), file.content);

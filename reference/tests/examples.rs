@@ -3,10 +3,12 @@
 use reference::component::{self, Component, Kind, Measured};
 use reference::examples::files;
 use reference::listing::report;
-use reference::lookup::{loss, LentMap};
+use reference::lookup::{loss, Axis, LentMap};
 use reference::loss::{measured_steps, MeasuredSteps, LEAST_ALLOWANCE};
 use reference::map::{self, Map};
+use reference::numerals::read_decimal;
 use reference::trace;
+use reference::writer::{write, HandedNumbers};
 
 fn file(name: &str) -> Vec<u8> {
     let found = files().into_iter().find(|file| file.name == name);
@@ -44,21 +46,111 @@ fn each_data_file_has_its_answer() {
     let expected = [
         "standard.axle",
         "standard.csv",
+        "standard.numbers",
         "measured.axle",
         "measured.csv",
+        "measured.numbers",
         "half-shafts.axle",
         "half-shafts.csv",
+        "half-shafts.numbers",
         "refused.axle",
         "refused.refusal",
         "bench-run.axle",
         "bench-run.csv",
+        "bench-run.numbers",
         "cut-short.axle",
         "cut-short.refusal",
     ];
     assert_eq!(names, expected);
-    for pair in files().chunks(2) {
-        assert_eq!(report(&pair[0].content), pair[1].content);
+    for pair in files().windows(2) {
+        if pair[0].name.ends_with(".axle") {
+            assert_eq!(report(&pair[0].content), pair[1].content);
+        }
     }
+}
+
+/// The numbers after a word, in all lines that begin with it.
+fn numbers_after(text: &str, word: &str, digits: usize) -> Vec<u32> {
+    let of_line = |line| str::strip_prefix(line, word)?.strip_prefix(' ');
+    let lines = text.lines().filter_map(of_line);
+    let numbers = lines.flat_map(|numbers| numbers.split(' '));
+    numbers
+        .map(|number| read_decimal(number, digits).unwrap())
+        .collect()
+}
+
+/// The numbers that a text says; sensors that it does not have are 0.
+fn handed(text: &str) -> HandedNumbers {
+    let numbers = |word: &str, digits: usize| -> Vec<u16> {
+        let numbers = numbers_after(text, word, digits).into_iter();
+        numbers.map(|n| u16::try_from(n).unwrap()).collect()
+    };
+    let axis = |word: &str, places: usize| {
+        let mut numbers = numbers(word, 0);
+        let count = numbers.len();
+        numbers.resize(places, 0);
+        Axis { numbers, count }
+    };
+    HandedNumbers {
+        kind: numbers("kind", 0)[0],
+        line: numbers("line", 0)[0],
+        ratio: numbers("ratio", 3)[0],
+        speeds: axis("speeds", 32),
+        torques: axis("torques", 64),
+        sensors: ["input", "output", "right"]
+            .map(|word| numbers(word, 0).try_into().unwrap_or_default()),
+        row_torques: numbers_after(text, "row", 2),
+    }
+}
+
+#[test]
+fn each_text_of_numbers_makes_the_file_beside_it() {
+    for (name, sensor_count) in [
+        ("standard", 0),
+        ("measured", 2),
+        ("half-shafts", 3),
+        ("bench-run", 2),
+    ] {
+        let data = file(&format!("{name}.axle"));
+        let numbers = handed(&text(&format!("{name}.numbers")));
+        let mut written = vec![0; data.len()];
+        assert_eq!(write(&numbers, &mut written), Ok(data.len()), "{name}");
+        assert_eq!(written, data, "{name}");
+        let others = &numbers.sensors[sensor_count..];
+        assert!(others.iter().all(|sensor| *sensor == [0; 9]), "{name}");
+    }
+}
+
+const HALF_SHAFTS_TEXT: &str = "\
+# Measured data with a sensor on each half-shaft: single reduction, ratio 3.000.
+kind 3
+line 1
+ratio 3.000
+speeds 100 200
+torques 1000 3000
+
+# The sensors: N, w, z, c, k, s, p, d, R. The output is the left one.
+input 10000 0 0 100 1000 0 0 0 10
+output 30000 0 0 100 1000 0 0 0 10
+right 15000 0 0 100 1000 0 0 0 10
+
+# Input, left and right torque at 100 rpm, then at 200 rpm.
+row 340.00 600.00 400.00
+row 1020.00 2000.00 1000.00
+row 345.00 350.00 652.00
+row 1100.00 1200.00 1800.00
+";
+
+#[test]
+fn texts_of_numbers_line_by_line() {
+    assert_eq!(text("half-shafts.numbers"), HALF_SHAFTS_TEXT);
+    let standard = "# Standard data: single reduction, ratio 3.000.\n\
+        kind 1\nline 1\nratio 3.000\nspeeds 100 200\ntorques 0 1000\n";
+    assert_eq!(text("standard.numbers"), standard);
+    let bench_run = text("bench-run.numbers");
+    assert!(bench_run.starts_with("# A bench run: single reduction, ratio 3.727.\nkind 2\n"));
+    let rows = "\n\n# Input and output torque at 50 rpm, then at each higher speed.\nrow ";
+    assert!(bench_run.contains(rows));
 }
 
 const STANDARD: &str = "01000101020001010300020BB8040004006400C8050004000003E8";

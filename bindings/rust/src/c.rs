@@ -25,11 +25,26 @@ pub struct Nearest {
     pub torque: u16,
 }
 
+/// The answer of a listing and of a write.
 #[repr(C)]
-pub struct Listing {
+pub struct Length {
     pub refusal: u32,
     pub place: usize,
     pub length: usize,
+}
+
+#[repr(C)]
+pub struct Numbers {
+    pub kind: u16,
+    pub line: u16,
+    pub ratio: u16,
+    pub speeds: [u16; 32],
+    pub speed_count: usize,
+    pub torques: [u16; 64],
+    pub torque_count: usize,
+    pub input: [u16; 9],
+    pub output: [u16; 9],
+    pub right: [u16; 9],
 }
 
 extern "C" {
@@ -66,5 +81,12 @@ extern "C" {
         entry_count: usize,
         text: *mut u8,
         text_length: usize,
-    ) -> Listing;
+    ) -> Length;
+    pub fn axle_write(
+        numbers: Numbers,
+        rows: *const u32,
+        row_torque_count: usize,
+        file: *mut u8,
+        file_length: usize,
+    ) -> Length;
 }

@@ -2,12 +2,12 @@
 //! Slices and arrays carry their lengths, so nothing is left for a caller to keep.
 //!
 //! Units: speeds of an axis in whole rpm and torques of an axis in whole Nm, both at the wheel;
-//! entries and losses in hundredths of Nm; a question's speed in tenths of rpm and its torque in
-//! hundredths of Nm.
+//! entries, losses and measured torques in hundredths of Nm; a question's speed in tenths of rpm
+//! and its torque in hundredths of Nm.
 //!
 //! Component data is of kind 1 (standard), 2 (measured with one sensor at the output) or 3
 //! (measured with one on each half-shaft, left and right). Every call takes all three alike;
-//! `docs/FORMAT.md` has them byte by byte.
+//! `docs/FORMAT.md` has them byte by byte. `Numbers` makes such data.
 //!
 //! ```
 //! let data = [
@@ -20,9 +20,11 @@
 
 mod c;
 mod grid;
+mod numbers;
 mod refusal;
 
 pub use grid::Grid;
+pub use numbers::{Numbers, Sensor};
 pub use refusal::Refusal;
 
 /// No map has more entries.
@@ -31,8 +33,11 @@ pub const MAXIMUM_ENTRIES: usize = 2_048;
 /// No listing has more bytes.
 pub const MAXIMUM_LISTING_LENGTH: usize = 65_536;
 
+/// No component data that is accepted has more bytes.
+pub const MAXIMUM_FILE_LENGTH: usize = 24_853;
+
 /// Reading may stop after so many bytes: longer data is never accepted, and what follows them
-/// changes no answer. The longest accepted data has 24,853.
+/// changes no answer.
 pub const READING_LIMIT: u64 = 32_768;
 
 fn answered<T>(refusal: u32, place: usize, value: T) -> Result<T, Refusal> {

@@ -1,11 +1,15 @@
-//! docs/FORMAT.md held to the library: the dumps, the fields of each kind, each limit of its tables and of its words and one beyond it, the axle lines, and each refusal as the page tries it.
+//! docs/FORMAT.md held to the library: the dumps, the fields of each kind, each limit of its tables and of its words and one beyond it, the axle lines, the text of numbers, and each refusal as the page tries it.
 
 #[path = "format/dumps.rs"]
 mod dumps;
+mod parsed;
 #[path = "format/words.rs"]
 mod words;
+#[path = "format/written.rs"]
+mod written;
 
 use axle::{build, loss, Refusal};
+use parsed::numbers_of;
 use std::path::PathBuf;
 
 fn at_root(name: &str) -> PathBuf {
@@ -47,6 +51,13 @@ fn table(page: &str, first_column: &str, second_column: &str) -> Vec<Vec<String>
         .collect();
     assert!(!rows.is_empty(), "the page has a table `{head}`");
     rows
+}
+
+/// The lines of the page's block with this mark.
+fn block<'a>(page: &'a str, mark: &str) -> Vec<&'a str> {
+    let fence = format!("```{mark}");
+    let lines = page.lines().skip_while(|line| *line != fence).skip(1);
+    lines.take_while(|line| *line != "```").collect()
 }
 
 fn number(text: &str) -> usize {
@@ -377,6 +388,10 @@ fn tried_refusal(example: &[u8], tried: &str) -> Option<Refusal> {
     if let Some(lent) = tried.strip_suffix(" entries lent") {
         return build(example, &mut entries[..number(lent)]).err();
     }
+    if let Some(lent) = tried.strip_prefix("numbers written to ") {
+        let mut file = vec![0; number(lent.trim_end_matches(" bytes"))];
+        return numbers_of(example).write_to(&mut file).err();
+    }
     let asked = match tried.strip_prefix("asked ") {
         Some(asked) => asked,
         None => return refusal_of(&changed(example, tried)),
@@ -392,14 +407,14 @@ fn tried_refusal(example: &[u8], tried: &str) -> Option<Refusal> {
     loss(&grid, &entries[..number(lent)], 1_000, 100_000).err()
 }
 
-/// Tries the refusals of a table on an example. The numbers of the table, each once.
-fn hold_refusals(second_column: &str, example: &[u8]) -> Vec<usize> {
+/// Tries the refusals of a table. The numbers of the table, each once.
+fn hold_refusals(second_column: &str, refusal: impl Fn(&str) -> Option<Refusal>) -> Vec<usize> {
     let rows = table(&page(), "number", second_column);
     for row in &rows {
         let (told, place) = row[4].split_once(" at ").expect("a number and a place");
         assert_eq!(told, row[0]);
         let expected = refused(number(told) as u32, number(place));
-        assert_eq!(tried_refusal(example, &row[3]), expected, "{}", row[3]);
+        assert_eq!(refusal(&row[3]), expected, "{}", row[3]);
     }
     let mut numbers: Vec<usize> = rows.iter().map(|row| number(&row[0])).collect();
     numbers.dedup();
@@ -408,13 +423,14 @@ fn hold_refusals(second_column: &str, example: &[u8]) -> Vec<usize> {
 
 #[test]
 fn refusals_are_those_of_the_table() {
-    let all: Vec<usize> = (1..=12).chain(20..=22).collect();
-    assert_eq!(hold_refusals("when", &measured()), all);
+    let all: Vec<usize> = (1..=12).chain(20..=22).chain([30]).collect();
+    let numbers = hold_refusals("when", |tried| tried_refusal(&measured(), tried));
+    assert_eq!(numbers, all);
 }
 
 #[test]
 fn refusals_of_kind_3_are_those_of_the_table() {
-    let numbers = hold_refusals("of kind 3", &half_shafts());
+    let numbers = hold_refusals("of kind 3", |tried| tried_refusal(&half_shafts(), tried));
     assert_eq!(numbers, [1, 2, 3, 4, 7, 8, 9, 10, 12]);
 }
 

@@ -119,19 +119,41 @@ fn refusals_print_by_their_words() {
         "refused 2 at 0: empty, or not component data (the field's offset)"
     );
     assert_eq!(text(20, 0), "refused 20 at 0: speed outside the axis");
-    for number in [0, 13, 19, 23, u32::MAX] {
+    assert_eq!(
+        text(30, 27),
+        "refused 30 at 27: too little room for the file (the length needed)"
+    );
+    for number in [0, 13, 19, 23, 29, 31, u32::MAX] {
         assert_eq!(text(number, 5), format!("refused {} at 5", number));
+    }
+}
+
+/// Numbers stand at no offset: of what refuses them the words are told alone.
+#[test]
+fn refused_numbers_print_without_an_offset() {
+    let text = |number| Refusal { number, place: 0 }.to_string();
+    assert_eq!(
+        text(3),
+        "refused 3 at 0: too few or too many numbers, or a field of a wrong length"
+    );
+    assert_eq!(text(4), "refused 4 at 0: number out of range");
+    for number in 3..=10 {
+        assert!(!text(number).contains("offset"), "{}", text(number));
+    }
+    for number in [1, 2, 12] {
+        assert!(text(number).ends_with("offset)"), "{}", text(number));
     }
 }
 
 #[test]
 fn every_number_has_words_of_its_own() {
     let mut all: Vec<String> = Vec::new();
-    for number in (1..=12).chain(20..=22) {
+    for number in (1..=12).chain(20..=22).chain([30]) {
         let text = Refusal { number, place: 5 }.to_string();
         let words = text.strip_prefix(&format!("refused {} at 5: ", number));
         let words = words.expect("words").to_string();
-        assert_eq!(words.ends_with(')'), number < 20, "{}", words);
+        let has_place = !(20..=22).contains(&number);
+        assert_eq!(words.ends_with(')'), has_place, "{}", words);
         assert!(!all.contains(&words), "{}", words);
         all.push(words);
     }

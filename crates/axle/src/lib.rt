@@ -1,8 +1,12 @@
 // The library for C and Rust: include/axle.h says the same for a C programmer.
 // Each answer has the refusal's number, 0 where there is none, its place, and the values apart from them. No function requires anything of its caller but that what is lent is there.
-use listing::ListingAnswer;
+use buffer::LengthAnswer;
+use grid::Grid;
+use grid::SpeedAxis;
+use grid::TorqueAxis;
 use lookup::LossAnswer;
 use lookup::NearestAnswer;
+use numbers::Numbers;
 use refusal::Answer;
 ghost use mathlib.Core.Path.{_≡_};
 ghost use lib.ListN.{length};
@@ -11,8 +15,10 @@ ghost use Rattle.lookup.specs.Loss.{lossAnswer};
 ghost use Rattle.lookup.specs.Nearest.{nearestAnswer};
 ghost use Rattle.lookup.specs.Answers.{lossAnswerOf, nearestAnswerOf};
 ghost use Rattle.listing.specs.Listing.{listing, listed};
-ghost use Rattle.listing.specs.Answers.{listingAnswerOf, contentOf};
-ghost use Rattle.axle.specs.Interface.{statusOf, lossOf, nearestOf, listingOf};
+ghost use Rattle.buffer.specs.Answers.{lengthAnswerOf};
+ghost use Rattle.buffer.specs.Written.{contentOf};
+ghost use Rattle.writer.specs.Written.{written, fileAfter};
+ghost use Rattle.axle.specs.Interface.{statusOf, lossOf, nearestOf, lengthOf, numbersIn};
 ghost use Rattle.axle.specs.Build.{BuildsForC};
 
 // The number of a refusal in document 01's table and its place; both 0 where nothing is refused.
@@ -49,12 +55,27 @@ pub struct AxleNearest {
     pub torque: u16,
 }
 
-// The bytes that were written, 0 where the listing is refused.
+// How many bytes were written, 0 where the call is refused.
 #[repr(C)]
-pub struct AxleListing {
+pub struct AxleLength {
     pub refusal: u32,
     pub place: usize,
     pub length: usize,
+}
+
+// The numbers of component data but for its rows. A sensor's nine numbers are in the order of the data; of kind 3 output is the left one.
+#[repr(C)]
+pub struct AxleNumbers {
+    pub kind: u16,
+    pub line: u16,
+    pub ratio: u16,
+    pub speeds: [u16; 32],
+    pub speed_count: usize,
+    pub torques: [u16; 64],
+    pub torque_count: usize,
+    pub input: [u16; 9],
+    pub output: [u16; 9],
+    pub right: [u16; 9],
 }
 
 fn status_of(answer: Answer) -> Status
@@ -108,20 +129,53 @@ fn nearest_of(answer: NearestAnswer) -> AxleNearest
     }
 }
 
-fn listing_of(answer: ListingAnswer) -> AxleListing
-    ensures { λ r. ⌜ r ≡ listingOf (listingAnswerOf answer) ⌝ }
+fn length_of(answer: LengthAnswer) -> AxleLength
+    ensures { λ r. ⌜ r ≡ lengthOf (lengthAnswerOf answer) ⌝ }
 {
     match answer {
-        ListingAnswer::Length(length) => AxleListing {
+        LengthAnswer::Length(length) => AxleLength {
             refusal: 0,
             place: 0,
             length,
         },
-        ListingAnswer::Refused(x) => AxleListing {
+        LengthAnswer::Refused(x) => AxleLength {
             refusal: x.number() as u32,
             place: x.place(),
             length: 0,
         },
+    }
+}
+
+fn numbers_in(handed: AxleNumbers) -> Numbers
+    ensures { λ r. ⌜ r ≡ numbersIn handed ⌝ }
+{
+    let speeds = handed.speeds;
+    let torques = handed.torques;
+    let speed_axis = SpeedAxis {
+        numbers: speeds,
+        count: handed.speed_count,
+    };
+    let torque_axis = TorqueAxis {
+        numbers: torques,
+        count: handed.torque_count,
+    };
+    let input_numbers = handed.input;
+    let output_numbers = handed.output;
+    let right_numbers = handed.right;
+    let input = sensor::sensor_of(&input_numbers);
+    let output = sensor::sensor_of(&output_numbers);
+    let right = sensor::sensor_of(&right_numbers);
+    Numbers {
+        kind: handed.kind,
+        line: handed.line,
+        ratio: handed.ratio,
+        grid: Grid {
+            speeds: speed_axis,
+            torques: torque_axis,
+        },
+        input,
+        output,
+        right,
     }
 }
 
@@ -203,10 +257,10 @@ pub extern "C" fn axle_listing(
     torque_count: usize,
     entries: &[u32],
     text: &mut [u8],
-) -> AxleListing
+) -> AxleLength
     ensures { λ r. ⌜
         r ≡
-        listingOf
+        lengthOf
         (listed (gridOf (now (speeds .entry)) «speed_count» (now (torques .entry)) «torque_count») (now (entries .entry)) (length (now (text .entry)))) ⌝ }
     ensures { λ r. ⌜
         now (text .exit) ≡
@@ -215,5 +269,15 @@ pub extern "C" fn axle_listing(
         (listing (gridOf (now (speeds .entry)) «speed_count» (now (torques .entry)) «torque_count») (now (entries .entry)))
         (now (text .entry)) ⌝ }
 {
-    listing_of(listing::write_in_parts(speeds, speed_count, torques, torque_count, entries, text))
+    length_of(listing::write_in_parts(speeds, speed_count, torques, torque_count, entries, text))
+}
+
+// Writes component data from its numbers, and the torques of its rows in the order of the data, to the first bytes of the lent file.
+#[no_mangle]
+pub extern "C" fn axle_write(numbers: AxleNumbers, rows: &[u32], file: &mut [u8]) -> AxleLength
+    ensures { λ r. ⌜ r ≡ lengthOf (written (numbersIn numbers) (now (rows .entry)) (length (now (file .entry)))) ⌝ }
+    ensures { λ r. ⌜ now (file .exit) ≡ fileAfter (numbersIn numbers) (now (rows .entry)) (now (file .entry)) ⌝ }
+{
+    let handed = numbers_in(numbers);
+    length_of(writer::write(handed, rows, file))
 }

@@ -1,10 +1,17 @@
 // Bytes and digits written to a lent buffer.
+use refusal::Refusal;
 ghost use mathlib.Core.Path.{_≡_};
 ghost use mathlib.Core.List.{[], _∷_};
 ghost use Prim.Native.Nat.{_+_, _≤_, _<_};
 ghost use lib.ListN.{length};
 ghost use Rattle.buffer.specs.Digits.{lastDigits, digitCount, decimal, hundredths};
 ghost use Rattle.buffer.specs.Written.{TextWritten};
+
+// The length of what was written to a lent buffer, or why nothing was.
+pub enum LengthAnswer {
+    Length(usize),
+    Refused(Refusal),
+}
 
 // How many digits a number below 10,000 has.
 fn short_digit_count(n: usize) -> usize

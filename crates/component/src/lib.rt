@@ -48,17 +48,18 @@ pub struct Reading {
     pub component: Component,
 }
 
-const KINDS: Range = Range {
+// The ranges of tags 1 to 3.
+pub const KINDS: Range = Range {
     lowest: 1,
     highest: 3,
 };
 
-const LINES: Range = Range {
+pub const LINES: Range = Range {
     lowest: 1,
     highest: 5,
 };
 
-const RATIOS: Range = Range {
+pub const RATIOS: Range = Range {
     lowest: 1000,
     highest: 20_000,
 };
@@ -219,7 +220,7 @@ fn read_outputs(data: &[u8], start: Cursor, kind: u16) -> OutputsRead
 }
 
 // The tag of the rows.
-fn rows_tag(kind: u16) -> u8
+pub fn rows_tag(kind: u16) -> u8
     ensures { λ r. ⌜ r ≡ rowsTag kind ⌝ }
 {
     if kind == 2 { 8 } else { 10 }

@@ -8,7 +8,7 @@ use native.Mathlib.Numerals.{add-one, add-two, add-three}
 use lib.ListN.{length, getD, drop, length-append, length-take, length-drop, take-append-drop}
 use lib.Seq.{take-append-seam, drop-append-seam, drop-cons, drop-drop, getD-take, getD-drop}
 use Rattle.fields.specs.Bytes.{numberOf, pairs, between}
-use Rattle.layout.specs.Layout.{twoBytes, numberBytes, fieldBytes}
+use Rattle.layout.specs.Layout.{twoBytes, fourBytes, encoded, numberBytes, torqueBytes, torquesIn, fieldBytes}
 use Rattle.layout.specs.Rules.{AreBytes}
 use Rattle.layout.specs.Faults.{Stands, lengthAt}
 
@@ -26,21 +26,25 @@ number-of-one n = omega arith
 pub number-of-two : (n : ℕ) → numberOf (twoBytes n) ≡ n
 number-of-two n = omega arith
 
+-- as many bytes as there are numbers, each with so many
+length-encoded : (bytesOf : ℕ → List ℕ) (size : ℕ) → ((n : ℕ) → length (bytesOf n) ≡ size) → (ns : List ℕ) → length (encoded bytesOf ns) ≡ size * length ns
+unfolding encoded
+length-encoded bytesOf size same [] = omega arith
+length-encoded bytesOf size same (n ∷ ns) = simp length-append (omega (arith, same n, length-encoded bytesOf size same ns))
+
 pub length-number-bytes : (ns : List ℕ) → length (numberBytes ns) ≡ 2 * length ns
-unfolding numberBytes
-length-number-bytes [] = refl
-length-number-bytes (n ∷ ns) = omega (arith, length-number-bytes ns)
+length-number-bytes ns = length-encoded twoBytes 2 (λ n. refl) ns
 
 -- bytes and numbers say the same, both ways
 pub pairs-number-bytes : (ns : List ℕ) → pairs (numberBytes ns) ≡ ns
-unfolding numberBytes pairs
+unfolding encoded pairs
 pairs-number-bytes [] = refl
 pairs-number-bytes (n ∷ ns) =
     let e : n / 256 * 256 + n % 256 ≡ n = omega arith in
     rw (e, pairs-number-bytes ns)
 
 pub number-bytes-pairs : (bytes : List ℕ) → AreBytes bytes → length bytes % 2 ≡ 0 → numberBytes (pairs bytes) ≡ bytes
-unfolding numberBytes pairs
+unfolding encoded pairs
 number-bytes-pairs [] b h = refl
 number-bytes-pairs (high ∷ []) b h = absurd (omega arith)
 number-bytes-pairs (high ∷ low ∷ bytes) b h =
@@ -61,6 +65,38 @@ number-bytes-two (high ∷ low ∷ []) b h =
     let e : numberOf (high ∷ low ∷ []) ≡ high * 256 + low = omega arith in
     rw e (sym (two-bytes-of high low (b 1 (omega arith))))
 number-bytes-two (a ∷ b ∷ d ∷ s) h k = absurd (omega arith)
+
+-- ---- torques of four bytes
+
+number-of-four : (n : ℕ) → numberOf (fourBytes n) ≡ n
+number-of-four n = omega arith
+
+pub length-torque-bytes : (torques : List ℕ) → length (torqueBytes torques) ≡ 4 * length torques
+length-torque-bytes torques = length-encoded fourBytes 4 (λ n. refl) torques
+
+-- bytes and torques say the same, both ways
+pub torques-in-bytes : (torques : List ℕ) → torquesIn (torqueBytes torques) ≡ torques
+unfolding encoded torquesIn
+torques-in-bytes [] = refl
+torques-in-bytes (torque ∷ torques) = rw (number-of-four torque, torques-in-bytes torques)
+
+pub torque-bytes-back : (bytes : List ℕ) → AreBytes bytes → length bytes % 4 ≡ 0 → torqueBytes (torquesIn bytes) ≡ bytes
+unfolding encoded torquesIn
+torque-bytes-back [] are h = refl
+torque-bytes-back (a ∷ []) are h = absurd (omega arith)
+torque-bytes-back (a ∷ b ∷ []) are h = absurd (omega arith)
+torque-bytes-back (a ∷ b ∷ c ∷ []) are h = absurd (omega arith)
+torque-bytes-back (a ∷ b ∷ c ∷ d ∷ bytes) are h =
+    let rest : length bytes % 4 ≡ 0 = omega arith in
+    let hb = are 1 (omega arith) in
+    let hc = are 2 (omega arith) in
+    let hd = are 3 (omega arith) in
+    let n = numberOf (a ∷ b ∷ c ∷ d ∷ []) in
+    let first : n / 16777216 ≡ a = omega arith in
+    let second : n / 65536 % 256 ≡ b = omega arith in
+    let third : n / 256 % 256 ≡ c = omega arith in
+    let fourth : n % 256 ≡ d = omega arith in
+    rw (first, second, third, fourth, torque-bytes-back bytes (λ i l. are (suc (suc (suc (suc i)))) (omega arith)) rest)
 
 -- a part of bytes is bytes
 pub between-bytes : (bytes : List ℕ) (start end : ℕ) → AreBytes bytes → AreBytes (between bytes start end)

@@ -111,7 +111,7 @@ pub sensors-rules : (bytes : List ℕ) (at : ℕ) (tags : List ℕ) (sensors : L
 sensors-rules bytes at [] [] h = tt
 sensors-rules bytes at (tag ∷ tags) (s ∷ sensors) h = (h .0 .rules, sensors-rules bytes (at + 21) tags sensors (h .1))
 
-length-sensor-bytes : (tags : List ℕ) (sensors : List Sensor) → length sensors ≡ length tags → length (sensorBytes tags sensors) ≡ 21 * length tags
+pub length-sensor-bytes : (tags : List ℕ) (sensors : List Sensor) → length sensors ≡ length tags → length (sensorBytes tags sensors) ≡ 21 * length tags
 unfolding sensorBytes
 length-sensor-bytes [] sensors e = refl
 length-sensor-bytes (tag ∷ tags) [] e = absurd (omega arith)

@@ -40,7 +40,7 @@ kind-longest (measured input outputs rows) line ratio speeds torques r =
     rw (length-measured line ratio speeds torques input outputs rows k)
     (rows-end-longest (sensorCount outputs) (length speeds) (length torques) few (r .speeds .at-most) (r .torques .at-most))
 
-laid-longest : (c : Component) → Rules c → length (layout c) ≤ longest
+pub laid-longest : (c : Component) → Rules c → length (layout c) ≤ longest
 laid-longest c r = kind-longest (c .kind) (c .line) (c .ratio) (c .speeds) (c .torques) r
 
 pub none-longer : NoneLonger

@@ -1,4 +1,5 @@
 pub mod FieldBytes
+pub mod LaidBytes
 pub mod OneField
 pub mod BodyChecks
 pub mod Runs

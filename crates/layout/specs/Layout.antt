@@ -3,6 +3,7 @@ use Prim.Native.Nat.{ℕ, _/_, _%_}
 use mathlib.Core.List.{List, [], _∷_, _++_}
 use lib.ListN.{length}
 use Rattle.component.specs.Component.{Component, Kind, standard, measured, sensorCount, kindNumber, sensorTags, rowsTag}
+use Rattle.fields.specs.Bytes.{numberOf}
 use Rattle.sensor.specs.Sensor.{sensorNumbers}
 use Rattle.sensor.specs.declared.Sensor.{Sensor}
 
@@ -10,10 +11,30 @@ use Rattle.sensor.specs.declared.Sensor.{Sensor}
 abbrev pub twoBytes : ℕ → List ℕ
 twoBytes n = n / 256 ∷ n % 256 ∷ []
 
+-- a number as four bytes
+abbrev pub fourBytes : ℕ → List ℕ
+fourBytes n = n / 16777216 ∷ n / 65536 % 256 ∷ n / 256 % 256 ∷ n % 256 ∷ []
+
+-- numbers one after another, each as its bytes
+unfoldable pub encoded : (ℕ → List ℕ) → List ℕ → List ℕ
+encoded bytesOf [] = []
+encoded bytesOf (n ∷ ns) = bytesOf n ++ encoded bytesOf ns
+
 -- numbers of two bytes each
-unfoldable pub numberBytes : List ℕ → List ℕ
-numberBytes [] = []
-numberBytes (n ∷ ns) = twoBytes n ++ numberBytes ns
+abbrev pub numberBytes : List ℕ → List ℕ
+numberBytes ns = encoded twoBytes ns
+
+-- the torques of rows, which have four bytes each
+abbrev pub torqueBytes : List ℕ → List ℕ
+torqueBytes torques = encoded fourBytes torques
+
+-- and back: the torques that bytes say, four bytes each
+unfoldable pub torquesIn : List ℕ → List ℕ
+torquesIn [] = []
+torquesIn (a ∷ []) = []
+torquesIn (a ∷ b ∷ []) = []
+torquesIn (a ∷ b ∷ c ∷ []) = []
+torquesIn (a ∷ b ∷ c ∷ d ∷ bytes) = numberOf (a ∷ b ∷ c ∷ d ∷ []) ∷ torquesIn bytes
 
 -- a field: its tag, the length of its body, its body
 unfoldable pub fieldBytes : ℕ → List ℕ → List ℕ

@@ -9,9 +9,16 @@ use Rattle.component.specs.Component.{Component, Rows, Kind, standard, measured
 use Rattle.sensor.specs.Sensor.{SensorRules}
 use Rattle.sensor.specs.declared.Sensor.{Sensor}
 
--- every number is a byte
+-- every number is below a limit
+abbrev pub AllBelow : (limit : ℕ) → List ℕ → Type 0
+AllBelow limit numbers = (i : ℕ) → i < length numbers → getD numbers i 0 < limit
+
+-- every number is a byte, or fits in four of them
 abbrev pub AreBytes : List ℕ → Type 0
-AreBytes bytes = (i : ℕ) → i < length bytes → getD bytes i 0 < 256
+AreBytes bytes = AllBelow 256 bytes
+
+abbrev pub FitFourBytes : List ℕ → Type 0
+FitFourBytes numbers = AllBelow 4294967296 numbers
 
 -- every sensor keeps its rules
 abbrev pub AllSensorRules : List Sensor → Type 0

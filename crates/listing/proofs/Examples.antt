@@ -10,7 +10,8 @@ use Rattle.grid.specs.Axis.{within, rises, firstStep, validNumbers}
 use Rattle.grid.specs.Map.{validSpeeds, validTorques, validGrid, validEntries, validMap}
 use Rattle.grid.specs.Parts.{gridOf}
 use Rattle.buffer.specs.Bytes.{bytes}
-use Rattle.listing.specs.Listing.{header, line, row, rows, listing, refusalLine, fitted, listed}
+use Rattle.listing.specs.Listing.{header, line, row, rows, listing, refusalLine, listed}
+use Rattle.buffer.specs.Written.{fitted}
 use Rattle.buffer.specs.Digits.{digitCountBy, digitCount, decimal, hundredths}
 
 -- what is computed, and what is expected

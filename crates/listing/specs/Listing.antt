@@ -1,13 +1,13 @@
 -- Document 01, "The map program" and "Refusals": the listing of a map and the line of a refusal, as bytes.
 use Prim.Native.Nat.{ℕ, _+_, _*_}
 use mathlib.Core.List.{List, _++_}
-use lib.Dec.{leb}
-use lib.ListN.{length, getD}
-use Rattle.refusal.specs.Outcome.{Told, Outcome, accepted, require, _>>=_}
+use lib.ListN.{getD}
+use Rattle.refusal.specs.Outcome.{Told, Outcome, require, _>>=_}
 use Rattle.grid.specs.declared.Grid.{Grid}
 use Rattle.grid.specs.Lists.{joined}
 use Rattle.grid.specs.Map.{validMap}
 use Rattle.buffer.specs.Bytes.{bytes}
+use Rattle.buffer.specs.Written.{fitted}
 use Rattle.buffer.specs.Digits.{decimal, hundredths}
 
 -- ---- the listing
@@ -45,15 +45,8 @@ listing grid entries =
 unfoldable pub refusalLine : Told → List ℕ
 refusalLine t = bytes "refused " ++ decimal (t .number) ++ bytes " at " ++ decimal (t .place) ++ bytes "\n"
 
--- ---- what is answered
--- a text written into a lent buffer of this length: its length is the answer, and the place of 11 where it does not fit
-unfoldable pub fitted : (text : List ℕ) (room : ℕ) → Outcome ℕ
-fitted text room = do
-  _ ← require (leb (length text) room) 11 (length text)
-  accepted (length text)
-
--- the answer of a listing, which tests 22 before 11
+-- ---- what is answered: 22 is tested before 11, whose place is the listing's length
 unfoldable pub listed : Grid → List ℕ → (room : ℕ) → Outcome ℕ
 listed grid entries room = do
   _ ← require (validMap grid entries) 22 0
-  fitted (listing grid entries) room
+  fitted 11 (listing grid entries) room

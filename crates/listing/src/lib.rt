@@ -1,4 +1,5 @@
 // The listing of a map and the line of a refusal, written as text to the first bytes of a lent buffer.
+use buffer::LengthAnswer;
 use grid::Grid;
 use lent::map_parts_valid;
 use refusal::Refusal;
@@ -8,15 +9,9 @@ ghost use lib.ListN.{length};
 ghost use Rattle.refusal.specs.Table.{told};
 ghost use Rattle.grid.specs.Parts.{gridOf};
 ghost use Rattle.refusal.specs.Outcome.{refusal};
-ghost use Rattle.listing.specs.Listing.{line, row, rows, refusalLine, listing, fitted, listed, header as Listing·header};
-ghost use Rattle.listing.specs.Answers.{listingAnswerOf, contentOf};
-ghost use Rattle.buffer.specs.Written.{TextWritten};
-
-// The length of the text that was written, or why none was.
-pub enum ListingAnswer {
-    Length(usize),
-    Refused(Refusal),
-}
+ghost use Rattle.listing.specs.Listing.{line, row, rows, refusalLine, listing, listed, header as Listing·header};
+ghost use Rattle.buffer.specs.Answers.{lengthAnswerOf};
+ghost use Rattle.buffer.specs.Written.{TextWritten, fitted, contentOf};
 
 // The first line of a listing, without its line feed.
 pub fn header() -> [u8; 17]
@@ -153,22 +148,22 @@ fn write_valid(
     torque_count: usize,
     entries: &[u32],
     text: &mut [u8],
-) -> ListingAnswer
+) -> LengthAnswer
     requires { ⌜ («speed_count» ≤ 32) × («torque_count» ≤ 64) × («speed_count» * «torque_count» ≤ length (now entries)) ⌝ }
     ensures { λ r. ⌜
-        listingAnswerOf r ≡
-        fitted
+        lengthAnswerOf r ≡
+        fitted 11
         (listing (gridOf (now (speeds .entry)) «speed_count» (now (torques .entry)) «torque_count») (now (entries .entry)))
         (length (now (text .entry))) ⌝ }
     ensures { λ r. ⌜
         now (text .exit) ≡
-        contentOf (listingAnswerOf r)
+        contentOf (lengthAnswerOf r)
         (listing (gridOf (now (speeds .entry)) «speed_count» (now (torques .entry)) «torque_count») (now (entries .entry)))
         (now (text .entry)) ⌝ }
 {
     let needed = 18 + rows_length(speeds, speed_count, torques, torque_count, entries);
     if text.len() < needed {
-        return ListingAnswer::Refused(Refusal::TooShort(needed));
+        return LengthAnswer::Refused(Refusal::TooShort(needed));
     }
     let first_line = header();
     let after_header = buffer::write_bytes(&first_line, text, 0);
@@ -182,13 +177,13 @@ fn write_valid(
         text,
         rows_at,
     );
-    ListingAnswer::Length(length)
+    LengthAnswer::Length(length)
 }
 
 // Writes the listing of a map from the start of the text, and answers its length. 22 is tested first, then 11, whose place is that length.
-pub fn write(grid: Grid, entries: &[u32], text: &mut [u8]) -> ListingAnswer
-    ensures { λ r. ⌜ listingAnswerOf r ≡ listed grid (now (entries .entry)) (length (now (text .entry))) ⌝ }
-    ensures { λ r. ⌜ now (text .exit) ≡ contentOf (listingAnswerOf r) (listing grid (now (entries .entry))) (now (text .entry)) ⌝ }
+pub fn write(grid: Grid, entries: &[u32], text: &mut [u8]) -> LengthAnswer
+    ensures { λ r. ⌜ lengthAnswerOf r ≡ listed grid (now (entries .entry)) (length (now (text .entry))) ⌝ }
+    ensures { λ r. ⌜ now (text .exit) ≡ contentOf (lengthAnswerOf r) (listing grid (now (entries .entry))) (now (text .entry)) ⌝ }
 {
     let speeds = grid.speeds;
     let torques = grid.torques;
@@ -210,19 +205,19 @@ pub fn write_in_parts(
     torque_count: usize,
     entries: &[u32],
     text: &mut [u8],
-) -> ListingAnswer
+) -> LengthAnswer
     ensures { λ r. ⌜
-        listingAnswerOf r ≡
+        lengthAnswerOf r ≡
         listed (gridOf (now (speeds .entry)) «speed_count» (now (torques .entry)) «torque_count») (now (entries .entry))
         (length (now (text .entry))) ⌝ }
     ensures { λ r. ⌜
         now (text .exit) ≡
-        contentOf (listingAnswerOf r)
+        contentOf (lengthAnswerOf r)
         (listing (gridOf (now (speeds .entry)) «speed_count» (now (torques .entry)) «torque_count») (now (entries .entry)))
         (now (text .entry)) ⌝ }
 {
     if !map_parts_valid(speeds, speed_count, torques, torque_count, entries) {
-        return ListingAnswer::Refused(Refusal::NotAMap);
+        return LengthAnswer::Refused(Refusal::NotAMap);
     }
     write_valid(speeds, speed_count, torques, torque_count, entries, text)
 }
@@ -240,17 +235,17 @@ fn write_refusal_line(number: u8, place: usize, text: &mut [u8]) -> usize
 }
 
 // Writes the line of a refusal from the start of the text, or answers 11 with the bytes needed.
-pub fn write_refusal(x: Refusal, text: &mut [u8]) -> ListingAnswer
-    ensures { λ r. ⌜ listingAnswerOf r ≡ fitted (refusalLine (told x)) (length (now (text .entry))) ⌝ }
-    ensures { λ r. ⌜ now (text .exit) ≡ contentOf (listingAnswerOf r) (refusalLine (told x)) (now (text .entry)) ⌝ }
+pub fn write_refusal(x: Refusal, text: &mut [u8]) -> LengthAnswer
+    ensures { λ r. ⌜ lengthAnswerOf r ≡ fitted 11 (refusalLine (told x)) (length (now (text .entry))) ⌝ }
+    ensures { λ r. ⌜ now (text .exit) ≡ contentOf (lengthAnswerOf r) (refusalLine (told x)) (now (text .entry)) ⌝ }
     ensures { λ r. ⌜ length (refusalLine (told x)) ≤ 53 ⌝ }
 {
     let number = x.number();
     let place = x.place();
     let bytes_needed = 13 + buffer::digit_count(number as usize) + buffer::digit_count(place);
     if text.len() < bytes_needed {
-        return ListingAnswer::Refused(Refusal::TooShort(bytes_needed));
+        return LengthAnswer::Refused(Refusal::TooShort(bytes_needed));
     }
     let length = write_refusal_line(number, place, text);
-    ListingAnswer::Length(length)
+    LengthAnswer::Length(length)
 }

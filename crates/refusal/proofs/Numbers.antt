@@ -3,10 +3,10 @@ use Prim.Native.Nat.{_≤_}
 use native.Mathlib.Omega.{arith}
 use Rattle.refusal.specs.Table.{number}
 use Rattle.refusal.specs.declared.Refusal.{Refusal}
-use Rattle.refusal.specs.declared.Refusal.the-variants.{Incomplete, WrongTag, WrongLength, OutOfRange, NotRising, FirstTorqueAboveStep, AboveNominal, OffAxisTorque, NegativeLoss, EntryTooLarge, TooShort, TrailingBytes, SpeedOutside, TorqueAbove, NotAMap}
+use Rattle.refusal.specs.declared.Refusal.the-variants.{Incomplete, WrongTag, WrongLength, OutOfRange, NotRising, FirstTorqueAboveStep, AboveNominal, OffAxisTorque, NegativeLoss, EntryTooLarge, TooShort, TrailingBytes, SpeedOutside, TorqueAbove, NotAMap, FileTooShort}
 
--- each is from 1 to 22
-pub number-between : (x : Refusal) → (1 ≤ number x) × (number x ≤ 22)
+-- each is from 1 to 30
+pub number-between : (x : Refusal) → (1 ≤ number x) × (number x ≤ 30)
 number-between (Incomplete p) = (omega arith, omega arith)
 number-between (WrongTag p) = (omega arith, omega arith)
 number-between (WrongLength p) = (omega arith, omega arith)
@@ -22,3 +22,4 @@ number-between (TrailingBytes p) = (omega arith, omega arith)
 number-between SpeedOutside = (omega arith, omega arith)
 number-between TorqueAbove = (omega arith, omega arith)
 number-between NotAMap = (omega arith, omega arith)
+number-between (FileTooShort p) = (omega arith, omega arith)

@@ -46,3 +46,7 @@ firstRefusal test i (suc count) = do
 abbrev pub placed : {A : Type 0} → (ℕ → ℕ) → Outcome A → Outcome A
 placed at (accepted a) = accepted a
 placed at (refused t) = refused (refusal (t .number) (at (t .place)))
+
+-- and with place 0
+abbrev pub withoutPlace : {A : Type 0} → Outcome A → Outcome A
+withoutPlace outcome = placed (λ place. 0) outcome

@@ -1,8 +1,8 @@
--- Document 01, "Refusals": the number and the place of each case. Where no place is given it is 0.
+-- Document 01, "Refusals", and document 02, C-12 (30): the number and the place of each case. Where no place is given it is 0.
 use Prim.Native.Nat.{ℕ}
 use Rattle.refusal.specs.Outcome.{Told, refusal, Outcome, accepted, refused}
 use Rattle.refusal.specs.declared.Refusal.{Refusal}
-use Rattle.refusal.specs.declared.Refusal.the-variants.{Incomplete, WrongTag, WrongLength, OutOfRange, NotRising, FirstTorqueAboveStep, AboveNominal, OffAxisTorque, NegativeLoss, EntryTooLarge, TooShort, TrailingBytes, SpeedOutside, TorqueAbove, NotAMap}
+use Rattle.refusal.specs.declared.Refusal.the-variants.{Incomplete, WrongTag, WrongLength, OutOfRange, NotRising, FirstTorqueAboveStep, AboveNominal, OffAxisTorque, NegativeLoss, EntryTooLarge, TooShort, TrailingBytes, SpeedOutside, TorqueAbove, NotAMap, FileTooShort}
 use Rattle.refusal.specs.declared.Answer.{Answer}
 use Rattle.refusal.specs.declared.Answer.the-variants.{Accepted, Refused}
 
@@ -22,6 +22,7 @@ number (TrailingBytes p) = 12
 number SpeedOutside = 20
 number TorqueAbove = 21
 number NotAMap = 22
+number (FileTooShort p) = 30
 
 abbrev pub place : Refusal → ℕ
 place (Incomplete p) = p
@@ -39,6 +40,7 @@ place (TrailingBytes p) = p
 place SpeedOutside = 0
 place TorqueAbove = 0
 place NotAMap = 0
+place (FileTooShort p) = p
 
 abbrev pub told : Refusal → Told
 told r = refusal (number r) (place r)

@@ -1,4 +1,4 @@
-// The refusals of document 01, "Refusals": a case for each row of the table.
+// The refusals of document 01, "Refusals", and of document 02: a case for each number.
 ghost use mathlib.Core.Path.{_≡_};
 ghost use Rattle.refusal.specs.Table.{number, place};
 
@@ -34,6 +34,8 @@ pub enum Refusal {
     TorqueAbove,
     // 22: what is lent is no map.
     NotAMap,
+    // 30: a lent buffer shorter than the file. The length needed.
+    FileTooShort(usize),
 }
 
 impl Refusal {
@@ -57,6 +59,7 @@ impl Refusal {
             Refusal::SpeedOutside => 20,
             Refusal::TorqueAbove => 21,
             Refusal::NotAMap => 22,
+            Refusal::FileTooShort(_) => 30,
         }
     }
 
@@ -76,10 +79,35 @@ impl Refusal {
             | Refusal::NegativeLoss(p)
             | Refusal::EntryTooLarge(p)
             | Refusal::TooShort(p)
-            | Refusal::TrailingBytes(p) => p,
+            | Refusal::TrailingBytes(p)
+            | Refusal::FileTooShort(p) => p,
             Refusal::SpeedOutside => 0,
             Refusal::TorqueAbove => 0,
             Refusal::NotAMap => 0,
+        }
+    }
+
+    // The same refusal with place 0.
+    pub fn without_place(self) -> Refusal
+        ensures { λ r. ⌜ (number r ≡ number self) × (place r ≡ 0) ⌝ }
+    {
+        match self {
+            Refusal::Incomplete(_) => Refusal::Incomplete(0),
+            Refusal::WrongTag(_) => Refusal::WrongTag(0),
+            Refusal::WrongLength(_) => Refusal::WrongLength(0),
+            Refusal::OutOfRange(_) => Refusal::OutOfRange(0),
+            Refusal::NotRising(_) => Refusal::NotRising(0),
+            Refusal::FirstTorqueAboveStep(_) => Refusal::FirstTorqueAboveStep(0),
+            Refusal::AboveNominal(_) => Refusal::AboveNominal(0),
+            Refusal::OffAxisTorque(_) => Refusal::OffAxisTorque(0),
+            Refusal::NegativeLoss(_) => Refusal::NegativeLoss(0),
+            Refusal::EntryTooLarge(_) => Refusal::EntryTooLarge(0),
+            Refusal::TooShort(_) => Refusal::TooShort(0),
+            Refusal::TrailingBytes(_) => Refusal::TrailingBytes(0),
+            Refusal::SpeedOutside => Refusal::SpeedOutside,
+            Refusal::TorqueAbove => Refusal::TorqueAbove,
+            Refusal::NotAMap => Refusal::NotAMap,
+            Refusal::FileTooShort(_) => Refusal::FileTooShort(0),
         }
     }
 }

@@ -24,10 +24,12 @@ use Rattle.refusal.specs.declared.Answer.the-variants.{Accepted, Refused}
 use Rattle.grid.proofs.Lists.{joined-same}
 use Rattle.grid.proofs.Points.{row-within}
 use Rattle.map.proofs.Valid.{is-built, is-map}
-use Rattle.listing.specs.Listing.{listing, rows, row, rowOfSpeed, refusalLine, fitted, listed}
-use Rattle.listing.specs.Answers.{listingAnswerOf, contentOf}
-use Rattle.listing.specs.declared.ListingAnswer.{ListingAnswer}
-use Rattle.listing.proofs.Fitted.{listed-map, fitted-whole}
+use Rattle.listing.specs.Listing.{listing, rows, row, rowOfSpeed, refusalLine, listed}
+use Rattle.buffer.specs.Answers.{lengthAnswerOf}
+use Rattle.buffer.specs.Written.{fitted, contentOf}
+use Rattle.buffer.specs.declared.LengthAnswer.{LengthAnswer}
+use Rattle.listing.proofs.Fitted.{listed-map}
+use Rattle.buffer.proofs.Fitted.{fitted-whole}
 use Rattle.listing.proofs.Lengths.{listing-most}
 use Rattle.report.specs.Report.{reportOf, report, Reports, ProgramWrites, textLength, LimitLosesNothing}
 
@@ -53,9 +55,9 @@ listing-same grid entries w =
     rw (w .speeds-length, w .torques-length, rows-same (grid .speeds .numbers) (grid .torques .numbers) entries (grid .speeds .count) (grid .torques .count))
 
 -- ---- what is reported
-module _ (bytes before after textBefore textAfter : List ℕ) (built : Built) (b : Builds bytes before after built) (r : ListingAnswer) where
+module _ (bytes before after textBefore textAfter : List ℕ) (built : Built) (b : Builds bytes before after built) (r : LengthAnswer) where
   pub refusal-reported : (x : Refusal) → built .answer ≡ Refused x
-      → (listingAnswerOf r ≡ fitted (refusalLine (told x)) (length textBefore)) × ((textAfter ≡ contentOf (listingAnswerOf r) (refusalLine (told x)) textBefore) × (length (refusalLine (told x)) ≤ 53))
+      → (lengthAnswerOf r ≡ fitted 11 (refusalLine (told x)) (length textBefore)) × ((textAfter ≡ contentOf (lengthAnswerOf r) (refusalLine (told x)) textBefore) × (length (refusalLine (told x)) ≤ 53))
       → Reports bytes before after textBefore textAfter r
   unfolding report reportOf
   refusal-reported x e h =
@@ -63,7 +65,7 @@ module _ (bytes before after textBefore textAfter : List ℕ) (built : Built) (b
       record { answer = rw (← q) (h .0); text = rw (← q) (h .1 .0); entries = b .written; short = rw (← q) (omega (arith, h .1 .1)) }
 
   pub map-reported : AreBytes bytes → built .answer ≡ Accepted
-      → (listingAnswerOf r ≡ listed (built .grid) after (length textBefore)) × (textAfter ≡ contentOf (listingAnswerOf r) (listing (built .grid) after) textBefore)
+      → (lengthAnswerOf r ≡ listed (built .grid) after (length textBefore)) × (textAfter ≡ contentOf (lengthAnswerOf r) (listing (built .grid) after) textBefore)
       → Reports bytes before after textBefore textAfter r
   unfolding report reportOf
   map-reported areBytes e h =
@@ -78,10 +80,10 @@ module _ (bytes before after textBefore textAfter : List ℕ) (built : Built) (b
       }
 
 -- ---- with room for every report, the report is written
-pub always-whole : (bytes before after textBefore textAfter : List ℕ) (r : ListingAnswer) → Reports bytes before after textBefore textAfter r → length textBefore ≡ 65536
-    → listingAnswerOf r ≡ accepted (length (report bytes (length before)))
+pub always-whole : (bytes before after textBefore textAfter : List ℕ) (r : LengthAnswer) → Reports bytes before after textBefore textAfter r → length textBefore ≡ 65536
+    → lengthAnswerOf r ≡ accepted (length (report bytes (length before)))
 always-whole bytes before after textBefore textAfter r h e =
-    h .answer ∙ sym (fitted-whole (report bytes (length before)) (length textBefore) (length (report bytes (length before))) refl (omega (arith, h .short)))
+    h .answer ∙ sym (fitted-whole 11 (report bytes (length before)) (length textBefore) (length (report bytes (length before))) refl (omega (arith, h .short)))
 
 -- 2,048 entries are enough for every map
 pub enough-entries : (bytes : List ℕ) (c : Component) → AreBytes bytes → component bytes ≡ accepted c → points c ≤ 2048
@@ -104,8 +106,8 @@ pub counted-bytes : (input : List ℕ) (n count : ℕ) → length input ≡ 3276
 counted-bytes input n count l e = ap (λ (k : ℕ). take k input) (sub-zero count ∙ e ∙ ap (min n) (sym l)) ∙ take-within n input
 
 -- the program's own room is enough for every output
-pub program-writes : (bytes before after textBefore textAfter : List ℕ) (r : ListingAnswer) (n : ℕ) → length before ≡ 2048 → length textBefore ≡ 65536
-    → Reports bytes before after textBefore textAfter r → n ≡ textLength (listingAnswerOf r)
+pub program-writes : (bytes before after textBefore textAfter : List ℕ) (r : LengthAnswer) (n : ℕ) → length before ≡ 2048 → length textBefore ≡ 65536
+    → Reports bytes before after textBefore textAfter r → n ≡ textLength (lengthAnswerOf r)
     → ProgramWrites bytes before after textBefore textAfter n
 program-writes bytes before after textBefore textAfter r n b t h e =
     let whole = rw b at (always-whole bytes before after textBefore textAfter r h t) in

@@ -8,9 +8,10 @@ use Rattle.grid.specs.Lists.{overwritten}
 use Rattle.grid.specs.Parts.{gridOf}
 use Rattle.layout.specs.Rules.{AreBytes}
 use Rattle.map.specs.Build.{LossMap, build, content}
-use Rattle.listing.specs.Listing.{listing, refusalLine, fitted}
-use Rattle.listing.specs.Answers.{listingAnswerOf, contentOf}
-use Rattle.listing.specs.declared.ListingAnswer.{ListingAnswer}
+use Rattle.listing.specs.Listing.{listing, refusalLine}
+use Rattle.buffer.specs.Answers.{lengthAnswerOf}
+use Rattle.buffer.specs.Written.{fitted, contentOf}
+use Rattle.buffer.specs.declared.LengthAnswer.{LengthAnswer}
 
 -- the listing of the map, or the line of the refusal
 unfoldable pub reportOf : Outcome LossMap → List ℕ
@@ -22,9 +23,9 @@ unfoldable pub report : List ℕ → (lent : ℕ) → List ℕ
 report bytes lent = reportOf (build bytes lent)
 
 -- What `write` promises for all data, lent entries and lent text: the length of the report or 11 with the bytes needed, and what both hold at exit. No report is longer than 65,536 bytes.
-pub record Reports (bytes entriesBefore entriesAfter textBefore textAfter : List ℕ) (r : ListingAnswer) : Type 0 where
-  pub answer : listingAnswerOf r ≡ fitted (report bytes (length entriesBefore)) (length textBefore)
-  pub text : textAfter ≡ contentOf (listingAnswerOf r) (report bytes (length entriesBefore)) textBefore
+pub record Reports (bytes entriesBefore entriesAfter textBefore textAfter : List ℕ) (r : LengthAnswer) : Type 0 where
+  pub answer : lengthAnswerOf r ≡ fitted 11 (report bytes (length entriesBefore)) (length textBefore)
+  pub text : textAfter ≡ contentOf (lengthAnswerOf r) (report bytes (length entriesBefore)) textBefore
   pub entries : entriesAfter ≡ content (build bytes (length entriesBefore)) entriesBefore
   pub short : length (report bytes (length entriesBefore)) ≤ 65536
 

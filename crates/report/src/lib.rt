@@ -1,14 +1,14 @@
 // What the map program writes for component data: the listing of its map, or the line of its refusal.
-use listing::ListingAnswer;
+use buffer::LengthAnswer;
 use refusal::Answer;
 ghost use Prim.Native.Nat.{min};
 ghost use mathlib.Core.Path.{_≡_};
 ghost use lib.ListN.{take};
-ghost use Rattle.listing.specs.Answers.{listingAnswerOf};
+ghost use Rattle.buffer.specs.Answers.{lengthAnswerOf};
 ghost use Rattle.report.specs.Report.{Reports, ProgramWrites, textLength};
 
 // Builds the map into the lent entries, and writes the report from the start of the lent text.
-pub fn write(data: &[u8], entries: &mut [u32], text: &mut [u8]) -> ListingAnswer
+pub fn write(data: &[u8], entries: &mut [u32], text: &mut [u8]) -> LengthAnswer
     ensures { λ r. ⌜ Reports (now («data» .entry)) (now (entries .entry)) (now (entries .exit)) (now (text .entry)) (now (text .exit)) r ⌝ }
 {
     let built = map::build(data, entries);
@@ -20,12 +20,12 @@ pub fn write(data: &[u8], entries: &mut [u32], text: &mut [u8]) -> ListingAnswer
 }
 
 // How long a text is: one that was written, or one that had no room.
-fn text_length(answer: ListingAnswer) -> usize
-    ensures { λ r. ⌜ r ≡ textLength (listingAnswerOf answer) ⌝ }
+fn text_length(answer: LengthAnswer) -> usize
+    ensures { λ r. ⌜ r ≡ textLength (lengthAnswerOf answer) ⌝ }
 {
     match answer {
-        ListingAnswer::Length(length) => length,
-        ListingAnswer::Refused(x) => x.place(),
+        LengthAnswer::Length(length) => length,
+        LengthAnswer::Refused(x) => x.place(),
     }
 }
 

@@ -4,7 +4,7 @@ ghost use mathlib.Core.Path.{_≡_};
 ghost use Prim.Native.Nat.{_<_};
 ghost use lib.ListN.{getD};
 ghost use Rattle.grid.specs.Axis.{within, _to_};
-ghost use Rattle.sensor.specs.Sensor.{sensorRanges, sensorCheck, sensorOf};
+ghost use Rattle.sensor.specs.Sensor.{sensorRanges, sensorCheck, sensorOf, sensorNumbers};
 ghost use Rattle.sensor.specs.Fault.{sensorFaultOf};
 
 // The nine numbers of a sensor, in the order of the data.
@@ -111,4 +111,21 @@ pub fn sensor_of(numbers: &[u16; 9]) -> Sensor
         difference: numbers[7],
         span: numbers[8],
     }
+}
+
+// And back: the numbers of a sensor.
+pub fn numbers_of(sensor: Sensor) -> [u16; 9]
+    ensures { λ r. ⌜ r ≡ sensorNumbers sensor ⌝ }
+{
+    [
+        sensor.nominal,
+        sensor.sensitivity,
+        sensor.zero,
+        sensor.calibration,
+        sensor.advancement,
+        sensor.parasitic,
+        sensor.share,
+        sensor.difference,
+        sensor.span,
+    ]
 }

@@ -1,14 +1,15 @@
 //! The benchmark: the proved library beside plain Rust, the second implementation and doubles, on the same inputs in one run.
 //! It prints times and ratios as the tables of docs/PERFORMANCE.md.
 
-use axle::Grid;
-use measure::answers::grid_of;
+use axle::{Grid, Numbers, MAXIMUM_FILE_LENGTH};
+use measure::answers::{grid_of, numbers_of};
 use measure::{doubles, plain, roots};
 use reference::data::{Data, Field};
 use reference::lookup::{self, LentMap};
 use reference::questions::Question;
 use reference::random::Source;
-use reference::{listing, map};
+use reference::writer::{self, HandedNumbers};
+use reference::{bench_run, component, listing, map};
 use std::hint::black_box;
 use std::time::Instant;
 
@@ -63,15 +64,18 @@ fn times(ways: &mut [Way]) -> Vec<f64> {
 struct Target {
     yardstick: Option<f64>,
     doubles: Option<f64>,
-    /// Of its own build of kind 2.
-    kind_2: Option<f64>,
+    /// Of another call of its own, and what that is.
+    other_call: Option<(f64, &'static str)>,
 }
 
 const NO_TARGET: Target = Target {
     yardstick: None,
     doubles: None,
-    kind_2: None,
+    other_call: None,
 };
+
+/// The way of another call of the library, which is measured in the same rounds.
+const OTHER_CALL: &str = "library, other call";
 
 fn of_yardstick(share: f64) -> Target {
     Target {
@@ -80,30 +84,46 @@ fn of_yardstick(share: f64) -> Target {
     }
 }
 
-/// The library's time as a share of the others.
+fn of_other_call(share: f64, what: &'static str) -> Target {
+    Target {
+        other_call: Some((share, what)),
+        ..NO_TARGET
+    }
+}
+
+/// The library's time as a share of the others that are measured.
 struct Ratios {
-    yardstick: f64,
-    doubles: f64,
-    kind_2: f64,
+    yardstick: Option<f64>,
+    doubles: Option<f64>,
+    other_call: Option<f64>,
 }
 
 impl Target {
     /// Each target in words, with whether it is reached. The last ratio has no column and is told here.
     fn verdict(self, ratios: &Ratios) -> String {
-        let kind_2 = format!("the library's measured build ({:.2})", ratios.kind_2);
+        let (other_share, what) = self.other_call.unzip();
+        let other_call = format!(
+            "{} ({})",
+            what.unwrap_or_default(),
+            ratio_text(ratios.other_call)
+        );
         let told = [
             (self.yardstick, ratios.yardstick, "the yardstick"),
             (self.doubles, ratios.doubles, "doubles"),
-            (self.kind_2, ratios.kind_2, &kind_2),
+            (other_share, ratios.other_call, &other_call),
         ]
         .into_iter()
         .filter_map(|(share, ratio, name)| {
-            let share = share?;
+            let (share, ratio) = (share?, ratio?);
             let verdict = if ratio <= share { "reached" } else { "missed" };
             Some(format!("at most {share} of {name}: {verdict}"))
         });
         told.collect::<Vec<String>>().join(", ")
     }
+}
+
+fn ratio_text(ratio: Option<f64>) -> String {
+    ratio.map_or(String::new(), |ratio| format!("{ratio:.2}"))
 }
 
 /// A time in the unit that reads best.
@@ -123,31 +143,30 @@ fn report(what: &str, target: Target, mut ways: Vec<Way>) {
         place.map(|place| best[place])
     };
     let cell = |name: &str| of(name).map_or(String::new(), time_text);
-    let infinite = f64::INFINITY;
-    let yardstick = of("Rust")
-        .unwrap_or(infinite)
-        .min(of("reference").unwrap_or(infinite));
-    let ratio = |name: &str| best[0] / of(name).unwrap_or(infinite);
+    let yardstick = [of("Rust"), of("reference")].into_iter().flatten();
+    let ratio = |other: Option<f64>| other.map(|other| best[0] / other);
     let ratios = Ratios {
-        yardstick: best[0] / yardstick,
-        doubles: ratio("doubles"),
-        kind_2: ratio("library, kind 2"),
+        yardstick: ratio(yardstick.reduce(f64::min)),
+        doubles: ratio(of("doubles")),
+        other_call: ratio(of(OTHER_CALL)),
     };
     println!(
-        "| {what} | {} | {} | {} | {} | {:.2} | {:.2} | {} |",
+        "| {what} | {} | {} | {} | {} | {} | {} | {} |",
         cell("library"),
         cell("Rust"),
         cell("reference"),
         cell("doubles"),
-        ratios.yardstick,
-        ratios.doubles,
+        ratio_text(ratios.yardstick),
+        ratio_text(ratios.doubles),
         target.verdict(&ratios)
     );
 }
 
-/// Data that is built, and its map as each of the four has it.
+/// Data that is built and written, its numbers as the two writers take them, and its map as each of the four has it.
 struct Subject {
     data: Vec<u8>,
+    handed: HandedNumbers,
+    numbers: Numbers,
     lent: LentMap,
     grid: Grid,
     entries: Vec<u32>,
@@ -203,7 +222,10 @@ fn bench_data(kind: u8, speed_count: u16, torque_count: u16, large_losses: bool)
 }
 
 fn subject(kind: u8, speed_count: u16, torque_count: u16, large_losses: bool) -> Subject {
-    let data = bench_data(kind, speed_count, torque_count, large_losses);
+    subject_of(bench_data(kind, speed_count, torque_count, large_losses))
+}
+
+fn subject_of(data: Vec<u8>) -> Subject {
     let built = map::build(&data, 2_048).expect("the data is accepted");
     let lent = LentMap::of(&built, built.entries.clone());
     let mut source = Source::new(1, 1);
@@ -217,7 +239,10 @@ fn subject(kind: u8, speed_count: u16, torque_count: u16, large_losses: bool) ->
             torque: within(&built.torques, 100),
         })
         .collect();
-    Subject {
+    let handed = HandedNumbers::of(&component::read(&data).expect("the data is accepted"));
+    let subject = Subject {
+        numbers: numbers_of(&handed).0,
+        handed,
         grid: grid_of(&lent),
         entries: built.entries.clone(),
         doubles: doubles::build(&data).expect("the data is accepted"),
@@ -226,15 +251,20 @@ fn subject(kind: u8, speed_count: u16, torque_count: u16, large_losses: bool) ->
         questions,
         lent,
         data,
-    }
+    };
+    check(&subject);
+    subject
 }
 
-/// The four agree on what is measured, but for doubles, which may be off.
+/// The four agree on what is measured, but for doubles, which may be off; and the numbers, written, are the data.
 fn check(subject: &Subject) {
     assert_eq!(plain::build(&subject.data).as_ref(), Some(&subject.entries));
     let mut built = vec![0; subject.entries.len()];
     assert_eq!(axle::build(&subject.data, &mut built), Ok(subject.grid));
     assert_eq!(built, subject.entries);
+    let mut file = vec![0; subject.data.len()];
+    let written = subject.numbers.write_on_grid(&subject.grid, &mut file);
+    assert_eq!((written, &file), (Ok(file.len()), &subject.data));
     for question in &subject.questions {
         let Question { speed, torque } = *question;
         let theirs = lookup::loss(&subject.lent, speed, torque).expect("within the map");
@@ -309,9 +339,29 @@ fn measure_build(what: &str, target: Target, subject: &Subject) {
 fn measure_half_shafts(what: &str, target: Target, subject: &Subject, kind_2: &Subject) {
     let (mut entries, mut other_entries) = (vec![0; 2_048], vec![0; 2_048]);
     let mut ways = build_ways(subject, &mut entries);
-    ways.push(way("library, kind 2", 1, || {
+    ways.push(way(OTHER_CALL, 1, || {
         let _ = black_box(axle::build(black_box(&kind_2.data), &mut other_entries));
     }));
+    report(what, target, ways);
+}
+
+/// A write of the data's numbers, with the library's build of the data in the same rounds.
+fn measure_write(what: &str, target: Target, subject: &Subject) {
+    let mut file = vec![0; MAXIMUM_FILE_LENGTH];
+    let mut other_file = file.clone();
+    let mut entries = vec![0; 2_048];
+    let ways = vec![
+        way("library", 1, || {
+            let numbers = black_box(&subject.numbers);
+            let _ = black_box(numbers.write_on_grid(&subject.grid, &mut file));
+        }),
+        way("reference", 1, || {
+            let _ = black_box(writer::write(black_box(&subject.handed), &mut other_file));
+        }),
+        way(OTHER_CALL, 1, || {
+            let _ = black_box(axle::build(black_box(&subject.data), &mut entries));
+        }),
+    ];
     report(what, target, ways);
 }
 
@@ -453,38 +503,41 @@ fn wrong_doubles(subject: &Subject) -> usize {
 fn measure_all() {
     let measured = subject(2, 32, 64, false);
     let half_shafts = subject(3, 32, 64, false);
-    let standard = subject(1, 32, 64, false);
-    let small = subject(2, 2, 2, false);
-    let large = subject(2, 32, 64, true);
-    for each in [&measured, &half_shafts, &standard, &small, &large] {
-        check(each);
-    }
+    let bench_run = subject_of(bench_run::data().bytes());
     println!(
         "| what | library | Rust | reference | doubles | to the yardstick | to doubles | target |"
     );
     println!("|---|---|---|---|---|---|---|---|");
     measure_roots();
-    let target = Target {
-        yardstick: Some(0.75),
-        doubles: Some(1.0),
-        ..NO_TARGET
-    };
-    measure_build("build, measured, 32 x 64", target, &measured);
-    let target = Target {
-        kind_2: Some(1.5),
-        ..NO_TARGET
-    };
-    let what = "build, half shafts, 32 x 64";
-    measure_half_shafts(what, target, &half_shafts, &measured);
-    measure_build("build, standard, 32 x 64", NO_TARGET, &standard);
+    measure_builds(&measured, &half_shafts, &bench_run);
+    let target = of_other_call(1.5, "the library's build of the file");
+    measure_write("write, measured, 32 x 64", target, &measured);
+    measure_write("write, half shafts, 32 x 64", target, &half_shafts);
+    measure_write("write, the bench run, 13 x 21", target, &bench_run);
     measure_loss("loss at a point, 32 x 64", of_yardstick(0.7), &measured);
     let what = "the same, an entry of 83,886.08 Nm or more";
-    measure_loss(what, NO_TARGET, &large);
+    measure_loss(what, NO_TARGET, &subject(2, 32, 64, true));
+    let small = subject(2, 2, 2, false);
     measure_loss("loss at a point, 2 x 2", of_yardstick(1.5), &small);
     measure_nearest("nearest point, 32 x 64", &measured);
     measure_listing("listing, 32 x 64", of_yardstick(0.3), &measured);
     let (wrong, all) = (wrong_doubles(&measured), measured.entries.len());
     println!("\nEntries of the measured map that doubles get wrong: {wrong} of {all}.");
+}
+
+fn measure_builds(measured: &Subject, half_shafts: &Subject, bench_run: &Subject) {
+    let target = Target {
+        yardstick: Some(0.75),
+        doubles: Some(1.0),
+        ..NO_TARGET
+    };
+    measure_build("build, measured, 32 x 64", target, measured);
+    let target = of_other_call(1.5, "the library's measured build");
+    let what = "build, half shafts, 32 x 64";
+    measure_half_shafts(what, target, half_shafts, measured);
+    let standard = subject(1, 32, 64, false);
+    measure_build("build, standard, 32 x 64", NO_TARGET, &standard);
+    measure_build("build, the bench run, 13 x 21", NO_TARGET, bench_run);
 }
 
 /// The time of one piece of work of the library alone.

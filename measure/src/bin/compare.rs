@@ -1,7 +1,8 @@
 //! The comparison at scale: generated cases through the library `axle` and through the second implementation, with demand 3 checked on the answers.
 
 use measure::answers::{answer, Lent};
-use reference::cases::{by_chance, systematic, Case};
+use reference::at_scale::{by_chance, systematic};
+use reference::cases::Case;
 use reference::reply::{reply, Seen};
 use reference::stored::outside;
 use std::process::ExitCode;
@@ -66,7 +67,7 @@ fn main() -> ExitCode {
     }
     let mut number = 0;
     while run.compared < count && start.elapsed() < limit {
-        run.compare(&as_build(by_chance(seed, number, true)));
+        run.compare(&as_build(by_chance(seed, number)));
         number += 1;
         if number % 20_000 == 0 {
             eprintln!(

@@ -1,6 +1,7 @@
 //! Compares the proved libraries with the second implementation: generates as many cases as asked for, gives them to the program `vectors`, and holds what it writes against the second implementation's answers.
 
-use reference::cases::{by_chance, systematic, Case};
+use reference::at_scale::{by_chance, systematic};
+use reference::cases::Case;
 use reference::reply::Seen;
 use reference::stored::{input_and_output, outside};
 use std::io::{Read, Write};
@@ -78,7 +79,7 @@ fn cases_from(seed: u64, from: u64, to: u64) -> Vec<Case> {
     } else {
         Vec::new()
     };
-    cases.extend((from..to).map(|number| by_chance(seed, number, true)));
+    cases.extend((from..to).map(|number| by_chance(seed, number)));
     cases
 }
 

@@ -3,6 +3,7 @@
 use reference::lookup::{Axis, LentMap};
 use reference::map::{self, Map};
 use reference::refusal::Refusal;
+use reference::writer::HandedNumbers;
 
 /// N, w, z, c, k, s, p, d, R.
 pub type SensorNumbers = [u16; 9];
@@ -62,9 +63,27 @@ impl Numbers {
         }
     }
 
+    fn kind(&self) -> u8 {
+        u8::try_from(self.sensors.len().max(1)).unwrap()
+    }
+
+    /// The same numbers for the writer. All bits are set where nothing is looked at.
+    pub fn handed(&self) -> HandedNumbers {
+        let mut sensors = [[u16::MAX; 9]; 3];
+        sensors[..self.sensors.len()].copy_from_slice(&self.sensors);
+        HandedNumbers {
+            kind: u16::from(self.kind()),
+            line: u16::from(self.line),
+            ratio: self.ratio,
+            speeds: axis(&self.speeds, 32),
+            torques: axis(&self.torques, 64),
+            sensors,
+            row_torques: self.rows.concat(),
+        }
+    }
+
     pub fn bytes(&self) -> Vec<u8> {
-        let kind = self.sensors.len().max(1);
-        let mut data = field(1, &[u8::try_from(kind).unwrap()]);
+        let mut data = field(1, &[self.kind()]);
         data.extend(field(2, &[self.line]));
         data.extend(numbers_field(3, &[self.ratio]));
         data.extend(numbers_field(4, &self.speeds));
@@ -110,18 +129,22 @@ fn rows_body(rows: &[Vec<u32>]) -> Vec<u8> {
     torques.flat_map(|torque| torque.to_be_bytes()).collect()
 }
 
+/// So many places; the count is that of the numbers.
+pub fn axis(numbers: &[u16], places: usize) -> Axis {
+    let count = numbers.len();
+    let mut numbers = numbers.to_vec();
+    numbers.resize(places, u16::MAX);
+    Axis { numbers, count }
+}
+
 pub fn lent(map: &Map) -> LentMap {
     LentMap::of(map, map.entries.clone())
 }
 
 pub fn lent_of(speeds: &[u16], torques: &[u16], entries: &[u32]) -> LentMap {
-    let axis = |numbers: &[u16]| Axis {
-        numbers: numbers.to_vec(),
-        count: numbers.len(),
-    };
     LentMap {
-        speeds: axis(speeds),
-        torques: axis(torques),
+        speeds: axis(speeds, speeds.len()),
+        torques: axis(torques, torques.len()),
         entries: entries.to_vec(),
     }
 }

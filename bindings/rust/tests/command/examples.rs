@@ -5,12 +5,14 @@ use super::*;
 use axle::Map;
 use std::path::Path;
 
-/// The examples' component data, each without its ending.
-fn names() -> Vec<PathBuf> {
+/// The examples' files with this ending, each without it, in the order of their names.
+pub fn names(ending: &str) -> Vec<PathBuf> {
     let entries = std::fs::read_dir(examples_folder()).expect("a folder");
     let paths = entries.map(|entry| entry.expect("an entry").path());
-    let data = paths.filter(|path| path.extension() == Some(OsStr::new("axle")));
-    data.map(|path| path.with_extension("")).collect()
+    let files = paths.filter(|path| path.extension() == Some(OsStr::new(ending)));
+    let mut names: Vec<PathBuf> = files.map(|path| path.with_extension("")).collect();
+    names.sort();
+    names
 }
 
 fn accepted(name: &Path) {
@@ -36,7 +38,7 @@ fn refused(name: &Path) {
 #[test]
 fn every_example_answers_as_the_file_beside_it_says() {
     let (mut accepted_count, mut refused_count) = (0, 0);
-    for name in names() {
+    for name in names("axle") {
         let is_there = |ending| name.with_extension(ending).is_file();
         match (is_there("csv"), is_there("refusal")) {
             (true, false) => {

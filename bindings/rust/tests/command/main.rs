@@ -2,8 +2,11 @@
 
 mod answers;
 mod examples;
+#[path = "../parsed/mod.rs"]
+mod parsed;
 mod streams;
 mod usage;
+mod write;
 
 use std::ffi::OsStr;
 use std::io::Write;

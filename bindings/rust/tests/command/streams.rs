@@ -14,7 +14,7 @@ fn writable(name: &str) -> File {
 
 #[test]
 fn files_that_cannot_be_read() {
-    for word in ["list", "check"] {
+    for word in ["list", "check", "write"] {
         let missing = "axle: cannot read \"missing.axle\": No such file";
         assert_failed_with(run([word, "missing.axle"]), 2, missing);
         assert_failed_with(run([word, "."]), 2, "axle: cannot read \".\": Is a dir");
@@ -29,36 +29,41 @@ fn files_that_cannot_be_read() {
 
 #[test]
 fn standard_input_that_cannot_be_read() {
-    for stream in [File::open(".").expect("opened"), writable("/dev/null")] {
-        let output = axle(["list", "-"]).stdin(stream).output().expect("it runs");
-        assert_failed_with(output, 2, "axle: cannot read standard input: ");
+    for word in ["list", "write"] {
+        for stream in [File::open(".").expect("opened"), writable("/dev/null")] {
+            let output = axle([word, "-"]).stdin(stream).output().expect("it runs");
+            assert_failed_with(output, 2, "axle: cannot read standard input: ");
+        }
     }
 }
 
 /// Data that is whole so far is not taken where the next read fails.
 #[test]
 fn a_read_that_fails_after_some_data() {
-    let (mut written, read) = UnixStream::pair().expect("a pair");
-    read.set_nonblocking(true).expect("set");
-    let data = std::fs::read(examples_folder().join(STANDARD)).expect("read");
-    written.write_all(&data).expect("room for it");
-    let mut command = axle(["list", "-"]);
-    let output = command
-        .stdin(OwnedFd::from(read))
-        .output()
-        .expect("it runs");
-    assert_failed_with(output, 2, "axle: cannot read standard input: ");
-    // Open until here: the command met no end of its input.
-    drop(written);
+    for (word, file) in [("list", STANDARD), ("write", "standard.numbers")] {
+        let (mut written, read) = UnixStream::pair().expect("a pair");
+        read.set_nonblocking(true).expect("set");
+        let data = std::fs::read(examples_folder().join(file)).expect("read");
+        written.write_all(&data).expect("room for it");
+        let mut command = axle([word, "-"]);
+        let output = command
+            .stdin(OwnedFd::from(read))
+            .output()
+            .expect("it runs");
+        assert_failed_with(output, 2, "axle: cannot read standard input: ");
+        // Open until here: the command met no end of its input.
+        drop(written);
+    }
 }
 
 #[test]
 fn output_that_cannot_be_written() {
-    let calls: [&[&str]; 5] = [
+    let calls: [&[&str]; 6] = [
         &["list", STANDARD],
         &["loss", STANDARD, "100", "0"],
         &["nearest", STANDARD, "100", "0"],
         &["check", STANDARD],
+        &["write", "standard.numbers"],
         &["--help"],
     ];
     for call in calls {
@@ -105,7 +110,9 @@ fn streams_that_are_closed() {
         assert_failed(run_closed(words, ">&-"), 2, closed);
     }
     let closed = "axle: cannot read standard input: it is closed\n";
-    assert_failed(run_closed("check -", "<&-"), 2, closed);
+    for words in ["check -", "write -"] {
+        assert_failed(run_closed(words, "<&-"), 2, closed);
+    }
     let listing = std::fs::read_to_string(examples_folder().join("standard.csv")).expect("read");
     assert_answered(run_closed("list standard.axle", "<&-"), &listing);
     let status = run_closed("list refused.axle", "2>&-").status.code();

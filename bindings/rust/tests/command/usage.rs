@@ -12,6 +12,9 @@ fn help() {
         "axle loss FILE SPEED TORQUE ",
         "axle nearest FILE SPEED TORQUE ",
         "axle check FILE ",
+        "axle write NUMBERS ",
+        "  kind  ",
+        "  row  ",
         "rpm",
         "Nm",
         "Status 2",
@@ -45,7 +48,7 @@ fn assert_wrong_usage(arguments: &[&str], what: &str, usage: &str) {
 
 #[test]
 fn no_command() {
-    let usage = "axle list|loss|nearest|check .., or axle --help";
+    let usage = "axle list|loss|nearest|check|write .., or axle --help";
     assert_wrong_usage(&[], "no command given", usage);
     assert_wrong_usage(&["lists"], "unknown command \"lists\"", usage);
     assert_wrong_usage(&["", STANDARD], "unknown command \"\"", usage);
@@ -62,6 +65,8 @@ fn too_few_or_too_many_arguments() {
     let (few, many) = ("too few arguments for loss", "too many arguments for loss");
     assert_wrong_usage(&["loss", STANDARD, "100"], few, usage);
     assert_wrong_usage(&["loss", STANDARD, "1", "2", "3"], many, usage);
+    let few = "too few arguments for write";
+    assert_wrong_usage(&["write"], few, "axle write NUMBERS");
 }
 
 #[test]
@@ -73,6 +78,7 @@ fn unknown_options() {
         what,
         "axle nearest FILE SPEED TORQUE",
     );
+    assert_wrong_usage(&["write", "-x"], what, "axle write NUMBERS");
 }
 
 /// Numbers are looked at before the file, which is not there.

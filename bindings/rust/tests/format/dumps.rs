@@ -126,13 +126,6 @@ fn dump(data: &[u8]) -> Vec<String> {
     lines
 }
 
-/// The lines of the page's block with this mark.
-fn block<'a>(page: &'a str, mark: &str) -> Vec<&'a str> {
-    let fence = format!("```{}", mark);
-    let lines = page.lines().skip_while(|line| *line != fence).skip(1);
-    lines.take_while(|line| *line != "```").collect()
-}
-
 #[test]
 fn the_dumps_are_the_examples() {
     for name in ["measured", "standard", "half-shafts"] {

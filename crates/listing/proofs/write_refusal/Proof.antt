@@ -10,7 +10,7 @@ use Rattle.listing.specs.Listing.{refusalLine}
 use Rattle.buffer.proofs.Digits.{length-decimal}
 use Rattle.listing.proofs.Lengths.{length-refusal-line}
 use Rattle.buffer.proofs.Places.{text-start}
-use Rattle.listing.proofs.Fitted.{fitted-short, fitted-whole}
+use Rattle.buffer.proofs.Fitted.{fitted-short, fitted-whole}
 use borrow.Author.Needs.{needs}
 use Rattle.listing.proofs.write_refusal.Statement.{statement}
 use Rattle.listing.proofs.write_refusal.Tie as tie
@@ -52,7 +52,7 @@ add-bytes-needed-2 : tie.Need-add-bytes-needed-2
 add-bytes-needed-2 c = search needs
 
 returns : tie.Need-returns
-returns c = (fitted-short _ _ _ (needed (c .before)) (c .if1 .taken), (refl, short (c .before)))
+returns c = (fitted-short _ _ _ _ (needed (c .before)) (c .if1 .taken), (refl, short (c .before)))
 
 write-refusal-line-requires : tie.Need-write-refusal-line-requires
 write-refusal-line-requires c κs = rw (told-by (c .before .before)) (omega (arith, needed (c .before .before)))
@@ -64,7 +64,7 @@ returns-2 : tie.Need-returns-2
 returns-2 c =
     let told = told-by (c .before .before .before .before .before) in
     let whole = rw told at (c .before .before .write-refusal-line .ensures) in
-    (fitted-whole _ _ _ (whole .after ∙ zero-add _) (omega (arith, needed (c .before .before .before .before .before), whole .after)), (whole .holds ∙ text-start _ _, short (c .before .before .before .before .before)))
+    (fitted-whole _ _ _ _ (whole .after ∙ zero-add _) (omega (arith, needed (c .before .before .before .before .before), whole .after)), (whole .holds ∙ text-start _ _, short (c .before .before .before .before .before)))
 
 pub write-refusal-spec : {M : Type 1} → statement M
 write-refusal-spec =

@@ -9,7 +9,7 @@ use Rattle.grid.specs.Parts.{gridOf}
 use Rattle.listing.specs.Listing.{listing}
 use Rattle.listing.proofs.Lengths.{length-listing}
 use Rattle.buffer.proofs.Places.{text-start, written-then}
-use Rattle.listing.proofs.Fitted.{fitted-short, fitted-whole}
+use Rattle.buffer.proofs.Fitted.{fitted-short, fitted-whole}
 use borrow.Author.Needs.{needs}
 use Rattle.listing.proofs.write_valid.Statement.{statement}
 use Rattle.listing.proofs.write_valid.Tie as tie
@@ -29,7 +29,7 @@ add-needed : tie.Need-add-needed
 add-needed c = search needs
 
 returns : tie.Need-returns
-returns c = (fitted-short _ _ _ (omega (arith, needed (c .before))) (omega arith), refl)
+returns c = (fitted-short _ _ _ _ (omega (arith, needed (c .before))) (omega arith), refl)
 
 header-requires : tie.Need-header-requires
 header-requires c κs = search needs
@@ -59,7 +59,7 @@ returns-2 c =
     let size = needed room-known in
     let first-line = rw (header-given .header .ensures) at (header-written .write-bytes .ensures) in
     let whole = written-then (written-then first-line (line-ended .write-byte .ensures) (omega arith)) (c .before .before .write-rows .ensures) (simp length-append (omega arith)) in
-    (fitted-whole _ _ _ (whole .after ∙ zero-add _) (omega (arith, size, whole .after)), whole .holds ∙ text-start _ _)
+    (fitted-whole _ _ _ _ (whole .after ∙ zero-add _) (omega (arith, size, whole .after)), whole .holds ∙ text-start _ _)
 
 pub write-valid-spec : {M : Type 1} → statement M
 write-valid-spec =

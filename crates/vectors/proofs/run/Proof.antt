@@ -7,10 +7,10 @@ use Rattle.vectors.proofs.run.Statement.{statement}
 use Rattle.vectors.proofs.run.Tie as tie
 
 abbrev Inv-loop : tie.InvT-loop
-Inv-loop body₀ entries₀ text₀ number₀ body entries text number = (length body ≡ length body₀) × (length entries ≡ length entries₀) × (length text ≡ length text₀)
+Inv-loop body₀ entries₀ rows₀ text₀ number₀ body entries rows text number = (length body ≡ length body₀) × (length entries ≡ length entries₀) × (length rows ≡ length rows₀) × (length text ≡ length text₀)
 
 abbrev μ-loop : tie.MeasureT-loop
-μ-loop body₀ entries₀ text₀ number₀ body entries text number = 1000000000 - number
+μ-loop body₀ entries₀ rows₀ text₀ number₀ body entries rows text number = 1000000000 - number
 
 loop-holds : tie.Need-loop-holds Inv-loop μ-loop
 loop-holds c = search needs
@@ -27,6 +27,9 @@ same-length-2 c = search needs
 same-length-3 : tie.Need-same-length-3 Inv-loop μ-loop
 same-length-3 c = search needs
 
+same-length-4 : tie.Need-same-length-4 Inv-loop μ-loop
+same-length-4 c = search needs
+
 returns : tie.Need-returns Inv-loop μ-loop
 returns c = search needs
 
@@ -39,14 +42,17 @@ loop-less c = search needs
 loop-again : tie.Need-loop-again Inv-loop μ-loop
 loop-again c = search needs
 
-same-length-4 : tie.Need-same-length-4 Inv-loop μ-loop
-same-length-4 c = search needs
-
 same-length-5 : tie.Need-same-length-5 Inv-loop μ-loop
 same-length-5 c = search needs
 
 same-length-6 : tie.Need-same-length-6 Inv-loop μ-loop
 same-length-6 c = search needs
+
+same-length-7 : tie.Need-same-length-7 Inv-loop μ-loop
+same-length-7 c = search needs
+
+same-length-8 : tie.Need-same-length-8 Inv-loop μ-loop
+same-length-8 c = search needs
 
 returns-2 : tie.Need-returns-2 Inv-loop μ-loop
 returns-2 c = search needs
@@ -62,11 +68,13 @@ run-spec =
     same-length
     same-length-2
     same-length-3
+    same-length-4
     returns
     add-number
     loop-less
     loop-again
-    same-length-4
     same-length-5
     same-length-6
+    same-length-7
+    same-length-8
     returns-2)

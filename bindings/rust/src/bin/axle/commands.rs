@@ -2,6 +2,7 @@
 
 use crate::failure::Failure;
 use crate::numbers::{hundredths, SPEED, TORQUE};
+use crate::numbers_text;
 use crate::streams;
 use axle::Map;
 use std::cmp::Ordering;
@@ -42,7 +43,16 @@ pub const COMMANDS: &[Command] = &[
         help: "whether the data is accepted, and its axes",
         function: check,
     },
+    Command {
+        name: "write",
+        arguments: &["NUMBERS"],
+        help: "the component data that says these numbers",
+        function: write,
+    },
 ];
+
+/// The arguments that are names of files.
+const FILES: [&str; 2] = ["FILE", "NUMBERS"];
 
 pub fn find(word: &OsStr) -> Option<&'static Command> {
     COMMANDS.iter().find(|command| word == command.name)
@@ -74,7 +84,7 @@ impl Command {
     /// There are no options but help: a file's name is not taken for one by mistake.
     fn option_fault(&self, arguments: &[OsString]) -> Option<String> {
         let mut pairs = self.arguments.iter().zip(arguments);
-        let (_, option) = pairs.find(|(name, text)| **name == "FILE" && is_option(text))?;
+        let (_, option) = pairs.find(|(name, text)| FILES.contains(name) && is_option(text))?;
         let mut file = OsString::from("./");
         file.push(option);
         Some(format!(
@@ -88,7 +98,7 @@ fn is_option(text: &OsStr) -> bool {
 }
 
 fn map(file: &OsStr) -> Result<Map, Failure> {
-    Ok(Map::build(&streams::read(file)?)?)
+    Ok(Map::build(&streams::read_data(file)?)?)
 }
 
 fn list(arguments: &[OsString]) -> Result<Vec<u8>, Failure> {
@@ -122,4 +132,9 @@ fn check(arguments: &[OsString]) -> Result<Vec<u8>, Failure> {
         torques[torques.len() - 1],
     );
     Ok(line.into_bytes())
+}
+
+fn write(arguments: &[OsString]) -> Result<Vec<u8>, Failure> {
+    let text = streams::read_text(&arguments[0])?;
+    Ok(numbers_text::numbers(&text)?.write()?)
 }

@@ -4,9 +4,9 @@ use axle::Refusal;
 use std::fmt;
 
 pub enum Failure {
-    /// The library refused the data or the question.
+    /// The library refused the data, the numbers or the question.
     Refused(Refusal),
-    /// Something could not be read or written, or is not allowed as an argument.
+    /// Something could not be read or written, or is not allowed as an argument or in a text.
     Failed(String),
     /// Other arguments than those of a command: what is wrong, and the usage.
     WrongUsage { message: String, usage: String },

@@ -5,6 +5,7 @@ mod commands;
 mod failure;
 mod help;
 mod numbers;
+mod numbers_text;
 mod streams;
 
 use failure::Failure;

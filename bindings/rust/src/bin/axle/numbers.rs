@@ -3,31 +3,36 @@
 use crate::failure::Failure;
 use std::ffi::OsStr;
 
-/// A number of a question: the argument's name, its unit, and the digits after the point.
+/// A number as it is typed: what it is called, what it is, and the digits after the point.
 pub struct Quantity {
-    argument: &'static str,
-    unit: &'static str,
-    digits: usize,
-    digits_in_words: &'static str,
+    pub name: &'static str,
+    pub form: &'static str,
+    pub digits: usize,
 }
 
 /// In tenths of rpm.
 pub const SPEED: Quantity = Quantity {
-    argument: "SPEED",
-    unit: "rpm",
+    name: "SPEED",
+    form: "number in rpm",
     digits: 1,
-    digits_in_words: "one digit",
 };
 
 /// In hundredths of Nm.
 pub const TORQUE: Quantity = Quantity {
-    argument: "TORQUE",
-    unit: "Nm",
+    name: "TORQUE",
+    form: "number in Nm",
     digits: 2,
-    digits_in_words: "two digits",
 };
 
-/// Why a text is no number of a question.
+/// How many digits are allowed after the point, in words.
+const AT_MOST: [&str; 4] = [
+    "",
+    ", at most one digit after the point",
+    ", at most two digits after the point",
+    ", at most three digits after the point",
+];
+
+/// Why a text is no number of a quantity.
 enum Fault {
     Malformed,
     TooLarge,
@@ -38,16 +43,26 @@ impl Quantity {
     pub fn number(&self, text: &OsStr) -> Result<u32, Failure> {
         let number = text.to_str().ok_or(Fault::Malformed);
         let number = number.and_then(|text| scaled(text, self.digits));
-        number.map_err(|fault| {
-            let allowed = match fault {
-                Fault::Malformed => format!(
-                    "not allowed: a number in {} without a sign, at most {} after the point",
-                    self.unit, self.digits_in_words
-                ),
-                Fault::TooLarge => format!("too large for a number in {}", self.unit),
-            };
-            Failure::Failed(format!("{} {text:?} is {allowed}", self.argument))
-        })
+        number.map_err(|fault| Failure::Failed(self.message(text, fault)))
+    }
+
+    /// The number, or the largest there is in its place. What is wrong where the text is none.
+    pub fn capped(&self, text: &str) -> Result<u32, String> {
+        match scaled(text, self.digits) {
+            Err(Fault::TooLarge) => Ok(u32::MAX),
+            number => number.map_err(|fault| self.message(text.as_ref(), fault)),
+        }
+    }
+
+    fn message(&self, text: &OsStr, fault: Fault) -> String {
+        let (name, form) = (self.name, self.form);
+        match fault {
+            Fault::TooLarge => format!("{name} {text:?} is too large for a {form}"),
+            Fault::Malformed => format!(
+                "{name} {text:?} is not allowed: a {form} without a sign{}",
+                AT_MOST[self.digits]
+            ),
+        }
     }
 }
 
@@ -62,7 +77,7 @@ fn scaled(text: &str, digits: usize) -> Result<u32, Fault> {
     if whole.is_empty() || part.len() > digits || !is_number(whole) || !is_number(part) {
         return Err(Fault::Malformed);
     }
-    let zeros = "00".bytes().take(digits - part.len());
+    let zeros = std::iter::repeat(b'0').take(digits - part.len());
     let mut all = whole.bytes().chain(part.bytes()).chain(zeros);
     let number = all.try_fold(0u32, |number, byte| {
         let digit = u32::from(byte - b'0');

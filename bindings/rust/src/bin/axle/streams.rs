@@ -24,10 +24,28 @@ fn open(name: &OsStr) -> io::Result<File> {
     }
 }
 
-/// The data in a file, or on standard input for `-`, up to the library's limit.
-pub fn read(name: &OsStr) -> Result<Vec<u8>, Failure> {
+/// No text of numbers need be longer: that of the largest grid has some 65,000 bytes.
+const LONGEST_TEXT: usize = 1_048_576;
+
+/// Component data, up to the library's limit.
+pub fn read_data(name: &OsStr) -> Result<Vec<u8>, Failure> {
+    read(name, axle::READING_LIMIT)
+}
+
+/// A text, which is read whole or not at all. Bytes that are not UTF-8 may stand in its remarks.
+pub fn read_text(name: &OsStr) -> Result<String, Failure> {
+    let text = read(name, LONGEST_TEXT as u64 + 1)?;
+    if text.len() > LONGEST_TEXT {
+        let message = format!("the text is longer than {LONGEST_TEXT} bytes");
+        return Err(Failure::Failed(message));
+    }
+    Ok(String::from_utf8_lossy(&text).into_owned())
+}
+
+/// The bytes of a file, or of standard input for `-`, up to a limit.
+fn read(name: &OsStr, limit: u64) -> Result<Vec<u8>, Failure> {
     let mut data = Vec::new();
-    let read = |file: File| file.take(axle::READING_LIMIT).read_to_end(&mut data);
+    let read = |file: File| file.take(limit).read_to_end(&mut data);
     match open(name).and_then(read) {
         Ok(_) => Ok(data),
         Err(error) if name == "-" => Err(failed("read standard input", error)),

@@ -1,7 +1,7 @@
--- `axle::listing_of` meets its contract. Assumes nothing.
+-- `axle::length_of` meets its contract. Assumes nothing.
 use borrow.Author.Needs.{needs}
-use Rattle.axle.proofs.listing_of.Statement.{statement}
-use Rattle.axle.proofs.listing_of.Tie as tie
+use Rattle.axle.proofs.length_of.Statement.{statement}
+use Rattle.axle.proofs.length_of.Tie as tie
 
 enum-known-answer : tie.Need-enum-known-answer
 enum-known-answer c = search needs
@@ -24,8 +24,8 @@ returns c = rw (c .before .answer .given .1)
 returns-2 : tie.Need-returns-2
 returns-2 c = rw (c .before .before .before .answer2 .given .1, c .before .number .ensures, c .place .ensures)
 
-pub listing-of-spec : {M : Type 1} → statement M
-listing-of-spec =
+pub length-of-spec : {M : Type 1} → statement M
+length-of-spec =
     tie.close
     (tie.spec
     enum-known-answer
