@@ -74,6 +74,8 @@ pub struct Seen {
     pub places: BTreeMap<u8, BTreeSet<usize>>,
     /// Maps built, by the number of their kind.
     pub maps: BTreeMap<u8, u64>,
+    /// Maps built whose data, written again, has other bytes.
+    pub written_otherwise: u64,
     pub losses: u64,
     pub negative_losses: u64,
     pub entries: Excess,
@@ -165,10 +167,14 @@ fn build_reply(
     lent_entries.resize(entries, 0);
     let lent = LentMap::of(&built, lent_entries);
     let mut text = b"entries kept\n".to_vec();
-    text.extend(written_again(data, &component, writer::write).bytes());
+    let again = written_again(data, &component, writer::write);
+    seen.written_otherwise += u64::from(again != WRITTEN_AGAIN);
+    text.extend(again.bytes());
     text.extend(map_reply(&lent, room, questions, Some(&exact), seen));
     text
 }
+
+const WRITTEN_AGAIN: &str = "written again\n";
 
 /// Whether the numbers of data that was read, written again in this way, are the same bytes.
 pub fn written_again<R>(
@@ -180,7 +186,7 @@ pub fn written_again<R>(
     let mut buffer: Vec<u8> = data.iter().map(|byte| !byte).collect();
     let answer = write(&HandedNumbers::of(component), &mut buffer);
     if answer.ok() == Some(data.len()) && buffer == data {
-        "written again\n"
+        WRITTEN_AGAIN
     } else {
         "written otherwise\n"
     }

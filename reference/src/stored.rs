@@ -182,9 +182,11 @@ fn refusals_and_places(seen: &Seen, number: u8) -> (u64, usize) {
     (count, places)
 }
 
-/// Entries and answers outside the limits of demand 3.
-pub fn outside(seen: &Seen) -> u64 {
-    seen.entries.outside + seen.answers.outside + seen.answers_below.outside
+/// Entries and answers outside the limits of demand 3, and data that has other bytes when it is
+/// written again: what both programs could have in common.
+pub fn broken(seen: &Seen) -> u64 {
+    let outside = seen.entries.outside + seen.answers.outside + seen.answers_below.outside;
+    outside + seen.written_otherwise
 }
 
 /// Millionths of a hundredth of Nm, written in hundredths.
@@ -227,6 +229,11 @@ impl fmt::Display for Seen {
             }
         }
         writeln!(f, "maps built: {}", by_kind(|kind| self.maps_of(kind)))?;
+        writeln!(
+            f,
+            "data of these maps written again with other bytes: {}",
+            self.written_otherwise
+        )?;
         writeln!(
             f,
             "losses at a point: {}, of these negative: {}",

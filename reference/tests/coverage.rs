@@ -8,7 +8,7 @@ use reference::loss::measured_steps;
 use reference::map;
 use reference::refusal::Refusal;
 use reference::reply::{reply, Seen};
-use reference::stored::{map_program_run, missing, outside, stored_cases};
+use reference::stored::{broken, map_program_run, missing, stored_cases};
 use std::collections::BTreeSet;
 
 /// The accepted component data among the stored cases.
@@ -407,7 +407,7 @@ fn every_refusal_occurs_and_no_answer_is_outside_the_limits() {
         reply(&case, &mut seen);
     }
     assert_eq!(missing(&seen), Vec::<String>::new());
-    assert_eq!(outside(&seen), 0);
+    assert_eq!(broken(&seen), 0);
 }
 
 #[test]

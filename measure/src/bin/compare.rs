@@ -4,7 +4,7 @@ use measure::answers::{answer, Lent};
 use reference::at_scale::{by_chance, systematic};
 use reference::cases::Case;
 use reference::reply::{reply, Seen};
-use reference::stored::outside;
+use reference::stored::broken;
 use std::process::ExitCode;
 use std::time::{Duration, Instant};
 
@@ -80,5 +80,5 @@ fn main() -> ExitCode {
     }
     print!("{}", run.seen);
     println!("{} compared, {} differ", run.compared, run.differ);
-    ExitCode::from(u8::from(run.differ > 0 || outside(&run.seen) > 0))
+    ExitCode::from(u8::from(run.differ > 0 || broken(&run.seen) > 0))
 }

@@ -3,7 +3,7 @@
 use reference::at_scale::{by_chance, systematic};
 use reference::cases::Case;
 use reference::reply::Seen;
-use reference::stored::{input_and_output, outside};
+use reference::stored::{broken, input_and_output};
 use std::io::{Read, Write};
 use std::process::{Command, ExitCode, Stdio};
 
@@ -114,5 +114,5 @@ fn main() -> ExitCode {
     }
     print!("{seen}");
     println!("{compared} compared, {differ} differ");
-    ExitCode::from(u8::from(differ > 0 || outside(&seen) > 0))
+    ExitCode::from(u8::from(differ > 0 || broken(&seen) > 0))
 }

@@ -3,7 +3,7 @@
 
 use reference::command::{ended, refused, write, Failure};
 use reference::reply::Seen;
-use reference::stored::{input_and_output, map_program_run, missing, outside, stored_cases};
+use reference::stored::{broken, input_and_output, map_program_run, missing, stored_cases};
 use reference::stored_files::{check_and_folder, renew, MadeFile};
 use std::process::ExitCode;
 
@@ -31,7 +31,7 @@ fn run() -> Result<(), Failure> {
         MadeFile::new("lossmap/stdout", listing),
     ];
     let different = renew(&folder, &files, check)?;
-    if !missing.is_empty() || outside(&seen) > 0 {
+    if !missing.is_empty() || broken(&seen) > 0 {
         return Err(refused("the cases are not as they must be"));
     }
     if check && different > 0 {
