@@ -1,4 +1,6 @@
 // Quotients and square roots of whole numbers, rounded up.
+#![tactic(auto)]
+
 ghost use Rattle.std.specs.Prelude.{◌≡◌, true, ◌<◌, ◌≤◌, ◌*◌, ◌/◌, ◌^◌, ◌-◌};
 ghost use Rattle.arith.specs.Quotient.{quotient_up};
 ghost use Rattle.arith.specs.Root.{root_up};

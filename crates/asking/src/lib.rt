@@ -1,4 +1,6 @@
 // Builds a map and asks it: the code that demand 3 is said of.
+#![tactic(auto)]
+
 ghost use Rattle.asking.specs.Answers.{Asks};
 
 use grid::Grid;
@@ -6,7 +8,7 @@ use lookup::LossAnswer;
 use refusal::Answer;
 
 // The build's answer and grid, and the answer to the query. Where the build refuses, the grid means nothing and the query is refused with 22.
-#[derive(Drop)]
+#[derive(Clone, Copy)]
 pub struct Asked {
     pub built: Answer,
     pub grid: Grid,

@@ -1,5 +1,7 @@
 // The library for C and Rust: include/axle.h says the same for a C programmer.
 // Each answer has the refusal's number, 0 where there is none, its place, and the values apart from them. No function requires anything of its caller but that what is lent is there.
+#![tactic(auto)]
+
 ghost use Rattle.std.specs.Prelude.{◌≡◌, length};
 ghost use Rattle.grid.specs.Parts.{grid_of};
 ghost use Rattle.lookup.specs.Loss.{loss_answer};
@@ -19,7 +21,7 @@ use numbers::Numbers;
 use refusal::Answer;
 
 // The number of a refusal in document 01's table and its place; both 0 where nothing is refused.
-#[derive(Drop)]
+#[derive(Clone, Copy)]
 pub struct Status {
     pub refusal: u32,
     pub place: usize,
@@ -27,7 +29,7 @@ pub struct Status {
 
 // A map that was built: its axes. Where the build is refused the counts are 0 and the numbers mean nothing.
 #[repr(C)]
-#[derive(Drop)]
+#[derive(Clone, Copy)]
 pub struct AxleBuilt {
     pub refusal: u32,
     pub place: usize,
@@ -39,7 +41,7 @@ pub struct AxleBuilt {
 
 // A loss in hundredths of Nm, 0 where it is refused.
 #[repr(C)]
-#[derive(Drop)]
+#[derive(Clone, Copy)]
 pub struct AxleLoss {
     pub refusal: u32,
     pub place: usize,
@@ -48,7 +50,7 @@ pub struct AxleLoss {
 
 // A speed in rpm and a torque in Nm, both 0 where it is refused.
 #[repr(C)]
-#[derive(Drop)]
+#[derive(Clone, Copy)]
 pub struct AxleNearest {
     pub refusal: u32,
     pub place: usize,
@@ -58,7 +60,7 @@ pub struct AxleNearest {
 
 // How many bytes were written, 0 where the call is refused.
 #[repr(C)]
-#[derive(Drop)]
+#[derive(Clone, Copy)]
 pub struct AxleLength {
     pub refusal: u32,
     pub place: usize,
@@ -67,7 +69,7 @@ pub struct AxleLength {
 
 // The numbers of component data but for its rows. A sensor's nine numbers are in the order of the data; of kind 3 output is the left one.
 #[repr(C)]
-#[derive(Drop)]
+#[derive(Clone, Copy)]
 pub struct AxleNumbers {
     pub kind: u16,
     pub line: u16,

@@ -1,4 +1,6 @@
 // Bytes and digits written to a lent buffer.
+#![tactic(auto)]
+
 ghost use Rattle.std.specs.Prelude.{◌≡◌, [], ◌∷◌, ◌+◌, ◌≤◌, ◌<◌, length};
 ghost use Rattle.buffer.specs.Digits.{last_digits, digit_count, decimal, hundredths};
 ghost use Rattle.buffer.specs.Written.{TextWritten};
@@ -6,7 +8,7 @@ ghost use Rattle.buffer.specs.Written.{TextWritten};
 use refusal::Refusal;
 
 // The length of what was written to a lent buffer, or why nothing was.
-#[derive(Drop)]
+#[derive(Clone, Copy)]
 pub enum LengthAnswer {
     Length(usize),
     Refused(Refusal),

@@ -1,11 +1,13 @@
 // A cell of a map, and the loss within it.
+#![tactic(auto)]
+
 ghost use Rattle.std.specs.Prelude.{◌≡◌, ◌*◌, ◌<◌, ◌≤◌, ◌^◌, length, get_or};
 ghost use Rattle.arith.specs.Fraction.{◌less◌over◌};
 ghost use Rattle.cell.specs.Rounding.{ceiling};
 ghost use Rattle.cell.specs.Interpolation.{cell_numbers, interpolation, CellThere, CellBounds};
 
 // A cell: its speeds x in tenths of rpm, its torques y in hundredths of Nm, and the entries e at its corners, by speed and then by torque.
-#[derive(Drop)]
+#[derive(Clone, Copy)]
 pub struct CellNumbers {
     pub x0: u64,
     pub x1: u64,

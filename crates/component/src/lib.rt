@@ -1,4 +1,6 @@
 // Reads component data: a run of fields, each a tag, a length in two bytes and a body.
+#![tactic(auto)]
+
 ghost use Rattle.std.specs.Prelude.{◌≡◌, ◌*◌, ◌≤◌, length};
 ghost use Rattle.component.specs.Component.{output_tags, rows_tag, row_length, axle_fields, axes_fields, sensor_fields, measured_fields, kind_fields};
 ghost use Rattle.component.specs.Answers.{axle_read_of, axes_read_of, CountsWithin, outputs_read_of, NoRightOutput, measured_read_of, NoRightMeasured, kind_read_of, RowsWithin, AbsentThere, no_sensor, no_part, component_from, NoNumbers, Reads};
@@ -9,14 +11,14 @@ use refusal::{Answer, Refusal};
 use sensor::Sensor;
 
 // A part of the data, from start up to end.
-#[derive(Drop)]
+#[derive(Clone, Copy)]
 pub struct DataPart {
     pub start: usize,
     pub end: usize,
 }
 
 // The numbers that component data says. The kind says which fields there are: of kind 1 the sensors and the rows mean nothing, of kind 2 the right sensor.
-#[derive(Drop)]
+#[derive(Clone, Copy)]
 pub struct Component {
     // 1 standard, 2 measured, 3 measured with an output sensor on each half shaft
     pub kind: u16,
@@ -35,7 +37,7 @@ pub struct Component {
 }
 
 // Where the answer is a refusal, the component means nothing.
-#[derive(Drop)]
+#[derive(Clone, Copy)]
 pub struct Reading {
     pub answer: Answer,
     pub component: Component,
@@ -58,7 +60,7 @@ pub const RATIOS: Range = Range {
 };
 
 // Tags 1 to 3, and the cursor past them.
-#[derive(Drop)]
+#[derive(Clone, Copy)]
 struct Axle {
     pub kind: u16,
     pub line: u16,
@@ -66,7 +68,7 @@ struct Axle {
     pub next: Cursor,
 }
 
-#[derive(Drop)]
+#[derive(Clone, Copy)]
 enum AxleRead {
     Read(Axle),
     Refused(Refusal),
@@ -97,13 +99,13 @@ fn read_axle(data: &[u8], start: Cursor) -> AxleRead
 }
 
 // Tags 4 and 5: the cursor past them, or the refusal.
-#[derive(Drop)]
+#[derive(Clone, Copy)]
 enum AxesAnswer {
     Read(Cursor),
     Refused(Refusal),
 }
 
-#[derive(Drop)]
+#[derive(Clone, Copy)]
 struct AxesRead {
     pub answer: AxesAnswer,
     pub grid: Grid,
@@ -171,14 +173,14 @@ fn no_sensor() -> Sensor
 }
 
 // The output sensors, and the cursor past them.
-#[derive(Drop)]
+#[derive(Clone, Copy)]
 struct Outputs {
     pub output: Sensor,
     pub right: Sensor,
     pub next: Cursor,
 }
 
-#[derive(Drop)]
+#[derive(Clone, Copy)]
 enum OutputsRead {
     Read(Outputs),
     Refused(Refusal),
@@ -233,7 +235,7 @@ fn rows_length(kind: u16, points: usize) -> usize
 }
 
 // From tag 6 on, and the cursor past the rows.
-#[derive(Drop)]
+#[derive(Clone, Copy)]
 struct Measured {
     pub input: Sensor,
     pub output: Sensor,
@@ -242,7 +244,7 @@ struct Measured {
     pub next: Cursor,
 }
 
-#[derive(Drop)]
+#[derive(Clone, Copy)]
 enum MeasuredRead {
     Read(Measured),
     Refused(Refusal),

@@ -1,4 +1,6 @@
 // Lays out numbers as the fields of component data, in a lent buffer.
+#![tactic(auto)]
+
 ghost use Rattle.std.specs.Prelude.{◌≡◌, [], ◌∷◌, ◌++◌, ◌+◌, ◌*◌, ◌≤◌, ◌<◌, length, take};
 ghost use Rattle.refusal.specs.Outcome.{accepted};
 ghost use Rattle.grid.specs.Map.{speeds_of, torques_of};

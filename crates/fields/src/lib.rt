@@ -1,4 +1,6 @@
 // The fields of component data. The cursor is a value, and each method returns the one past the field that it read.
+#![tactic(auto)]
+
 ghost use Rattle.std.specs.Prelude.{◌≡◌, ◌++◌, ◌+◌, ◌*◌, ◌/◌, ◌≤◌, ◌<◌, ◌^◌, length, get_or, take, drop};
 ghost use Rattle.fields.specs.Bytes.{number_of, pairs};
 ghost use Rattle.fields.specs.Field.{head, field, exactly, numbers as numbers_from, number, axis};
@@ -57,13 +59,13 @@ fn fill(body: &[u8], numbers: &mut [u16])
 }
 
 // The reading place.
-#[derive(Drop)]
+#[derive(Clone, Copy)]
 pub struct Cursor {
     pub at: usize,
 }
 
 // The lengths that a body may have.
-#[derive(Drop)]
+#[derive(Clone, Copy)]
 pub enum Allowed {
     // So many bytes.
     Exactly(usize),
@@ -83,7 +85,7 @@ fn allows(allowed: Allowed, length: usize) -> bool
 }
 
 // A field whose head is right and whose body is there: kind is the tag that was read, the body starts at start and ends before next.
-#[derive(Drop)]
+#[derive(Clone, Copy)]
 pub enum FieldRead {
     Field {
         kind: u8,
@@ -127,14 +129,14 @@ impl Cursor {
 }
 
 // A field of one number: where its body starts, and the cursor past it.
-#[derive(Drop)]
+#[derive(Clone, Copy)]
 pub struct NumberField {
     pub value: u16,
     pub start: usize,
     pub next: Cursor,
 }
 
-#[derive(Drop)]
+#[derive(Clone, Copy)]
 pub enum NumberRead {
     Read(NumberField),
     Refused(Refusal),
@@ -154,7 +156,7 @@ fn read_numbers(body: &[u8], place: usize, range: Range, numbers: &mut [u16]) ->
     }
 }
 
-#[derive(Drop)]
+#[derive(Clone, Copy)]
 enum SensorRead {
     Read(Sensor),
     Refused(Refusal),
@@ -174,28 +176,28 @@ fn read_sensor(body: &[u8], place: usize) -> SensorRead
 }
 
 // A field of axis numbers: how many there are, where the first stands, and the cursor past them.
-#[derive(Drop)]
+#[derive(Clone, Copy)]
 pub struct AxisField {
     pub count: usize,
     pub start: usize,
     pub next: Cursor,
 }
 
-#[derive(Drop)]
+#[derive(Clone, Copy)]
 pub enum AxisRead {
     Read(AxisField),
     Refused(Refusal),
 }
 
 // A field of a sensor's numbers: where the first stands, and the cursor past them.
-#[derive(Drop)]
+#[derive(Clone, Copy)]
 pub struct SensorField {
     pub sensor: Sensor,
     pub start: usize,
     pub next: Cursor,
 }
 
-#[derive(Drop)]
+#[derive(Clone, Copy)]
 pub enum SensorFieldRead {
     Read(SensorField),
     Refused(Refusal),

@@ -1,4 +1,6 @@
 // The two axes of a map, their rules, and what makes a map.
+#![tactic(auto)]
+
 ghost use Rattle.std.specs.Prelude.{◌≡◌, ◌&&◌, ◌-◌, ◌<◌, ◌≤◌, leb, length, get_or};
 ghost use Rattle.grid.specs.Every.{every};
 ghost use Rattle.grid.specs.Axis.{within, rises, axis_numbers};
@@ -7,7 +9,7 @@ ghost use Rattle.grid.specs.Map.{valid_speeds, valid_torques, valid_grid};
 ghost use Rattle.grid.specs.Parts.{grid_of};
 
 // The numbers that a place of the data may hold, both ends among them.
-#[derive(Drop)]
+#[derive(Clone, Copy)]
 pub struct Range {
     pub lowest: u16,
     pub highest: u16,
@@ -26,20 +28,20 @@ pub const TORQUE_RANGE: Range = Range {
 };
 
 // An axis: its numbers, and how many there are. What stands past the count means nothing.
-#[derive(Drop)]
+#[derive(Clone, Copy)]
 pub struct SpeedAxis {
     pub numbers: [u16; 32],
     pub count: usize,
 }
 
-#[derive(Drop)]
+#[derive(Clone, Copy)]
 pub struct TorqueAxis {
     pub numbers: [u16; 64],
     pub count: usize,
 }
 
 // The axes of a map: speeds in rpm and torques in Nm, both at the wheel.
-#[derive(Drop)]
+#[derive(Clone, Copy)]
 pub struct Grid {
     pub speeds: SpeedAxis,
     pub torques: TorqueAxis,
@@ -61,7 +63,7 @@ pub fn empty_grid() -> Grid
 }
 
 // The first number of an axis that is wrong, by its index.
-#[derive(Drop)]
+#[derive(Clone, Copy)]
 pub enum AxisFault {
     Nothing,
     // 4: it is not in its range.

@@ -1,4 +1,6 @@
 // Whether what a caller lends as a map is one (22): axes that keep their rules, and an entry for each point, none above the largest.
+#![tactic(auto)]
+
 ghost use Rattle.std.specs.Prelude.{◌≡◌, ℕ, ◌<◌, ◌≤◌, leb, length, get_or};
 ghost use Rattle.grid.specs.Every.{every};
 ghost use Rattle.grid.specs.Map.{valid_entries, valid_map};

@@ -1,4 +1,6 @@
 // The listing of a map and the line of a refusal, written as text to the first bytes of a lent buffer.
+#![tactic(auto)]
+
 ghost use Rattle.std.specs.Prelude.{◌≡◌, ◌+◌, ◌*◌, ◌≤◌, ◌<◌, length};
 ghost use Rattle.refusal.specs.Table.{told};
 ghost use Rattle.grid.specs.Parts.{grid_of};

@@ -1,4 +1,6 @@
 // The loss at a point of a map, and the nearest grid point.
+#![tactic(auto)]
+
 ghost use Rattle.std.specs.Prelude.{◌≡◌, true, ◌+◌, ◌-◌, ◌*◌, ◌<◌, ◌≤◌, ◌^◌, length, get_or, take};
 ghost use Rattle.grid.specs.Map.{valid_map};
 ghost use Rattle.grid.specs.Parts.{grid_of};
@@ -11,14 +13,14 @@ use grid::Grid;
 use refusal::Refusal;
 
 // The loss at a point in hundredths of Nm, or 22, 20 or 21.
-#[derive(Drop)]
+#[derive(Clone, Copy)]
 pub enum LossAnswer {
     Loss(i64),
     Refused(Refusal),
 }
 
 // The nearest grid point, a speed in rpm and a torque in Nm, or 22.
-#[derive(Drop)]
+#[derive(Clone, Copy)]
 pub enum NearestAnswer {
     At { speed: u16, torque: u16 },
     Refused(Refusal),

@@ -1,4 +1,6 @@
 // The loss of an axle: the standard loss of a line, and the measured loss of a row of readings.
+#![tactic(auto)]
+
 ghost use Rattle.std.specs.Prelude.{◌≡◌, ◌+◌, ◌-◌, ◌*◌, ◌≤◌, ◌<◌, ◌^◌};
 ghost use Rattle.arith.specs.Fraction.{Same, ◌over◌};
 ghost use Rattle.arith.specs.Quotient.{quotient_up};
@@ -9,7 +11,7 @@ ghost use Rattle.loss.specs.Measured.{fixed_parts, sensor_uncertainty, sensor_st
 use sensor::Sensor;
 
 // An axle line: efficiency in percent, and the two drag constants in Nm.
-#[derive(Drop)]
+#[derive(Clone, Copy)]
 struct Line {
     pub efficiency: u64,
     pub t0: u64,
@@ -87,7 +89,7 @@ pub fn standard_entry(line: u16, ratio: u16, torque: u16) -> u64
 }
 
 // The parts of a sensor's uncertainty that do not depend on its torque, in grains: b, g and h.
-#[derive(Drop)]
+#[derive(Clone, Copy)]
 pub struct FixedParts {
     pub zero: u64,
     pub calibration: u64,
@@ -95,7 +97,7 @@ pub struct FixedParts {
 }
 
 // A sensor's uncertainty in grains, step by step in the order of the annex: a, b, g, h and U.
-#[derive(Drop)]
+#[derive(Clone, Copy)]
 pub struct Steps {
     pub sensitivity: u64,
     pub zero: u64,
@@ -209,7 +211,7 @@ pub fn loss_uncertainty(parts: &[u64]) -> u64
 }
 
 // The measured loss, in half micronewton metres: 20,000 to a hundredth of Nm, so that 5 % of it is whole.
-#[derive(Drop)]
+#[derive(Clone, Copy)]
 pub enum MeasuredLoss {
     UnderZero,
     Loss(u64),

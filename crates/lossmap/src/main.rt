@@ -1,11 +1,13 @@
 // The map program: reads component data from standard input, and writes the listing of its map or the line of its refusal to standard output. Where it cannot read, or not write all, it says so on standard error.
+#![tactic(auto)]
+
 ghost use Rattle.std.specs.Prelude.{◌≤◌, ◌≡◌, length};
 ghost use Rattle.lossmap.specs.Input.{input_of, bytes_read};
 
 use libc::{STDERR_FILENO, STDIN_FILENO, STDOUT_FILENO};
 
 // How many bytes were read, or that reading failed.
-#[derive(Drop)]
+#[derive(Clone, Copy)]
 enum Input {
     Bytes(usize),
     Failed,

@@ -1,4 +1,6 @@
 // Builds a loss map from component data.
+#![tactic(auto)]
+
 ghost use Rattle.std.specs.Prelude.{◌≡◌, ◌+◌, ◌*◌, ◌≤◌, ◌<◌, ◌^◌, length};
 ghost use Rattle.refusal.specs.Outcome.{first_refusal};
 ghost use Rattle.refusal.specs.Table.{answer_says};
@@ -15,7 +17,7 @@ use refusal::{Answer, Refusal};
 use rows::Bench;
 
 // Where the answer is a refusal, the grid means nothing.
-#[derive(Drop)]
+#[derive(Clone, Copy)]
 pub struct Built {
     pub answer: Answer,
     pub grid: Grid,

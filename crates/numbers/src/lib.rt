@@ -1,4 +1,6 @@
 // The numbers that a caller hands over to be written as component data, and the tests of them that come before those of the rows.
+#![tactic(auto)]
+
 ghost use Rattle.std.specs.Prelude.{◌≡◌, ◌∷◌, ◌≤◌, length};
 ghost use Rattle.refusal.specs.Outcome.{without_place};
 ghost use Rattle.refusal.specs.Table.{answer_says};
@@ -11,7 +13,7 @@ use refusal::{Answer, Refusal};
 use sensor::{Sensor, SensorFault};
 
 // The numbers of component data but for its rows. What the kind does not have is not looked at: of kind 1 the sensors, of kind 2 the right one.
-#[derive(Drop)]
+#[derive(Clone, Copy)]
 pub struct Numbers {
     // 1 standard, 2 measured, 3 measured with an output sensor on each half shaft
     pub kind: u16,

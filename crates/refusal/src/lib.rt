@@ -1,9 +1,11 @@
 // The refusals of document 01, "Refusals", and of document 02: a case for each number.
+#![tactic(auto)]
+
 ghost use Rattle.std.specs.Prelude.{◌≡◌};
 ghost use Rattle.refusal.specs.Table.{number, place};
 
 // Each case holds the place that is given with it; those without one have place 0.
-#[derive(Drop)]
+#[derive(Clone, Copy)]
 pub enum Refusal {
     // 1: a head or a body that the end of the data cuts off. The head's offset.
     Incomplete(usize),
@@ -114,7 +116,7 @@ impl Refusal {
 }
 
 // What comes of a call whose value, if it has one, stands beside the answer.
-#[derive(Drop)]
+#[derive(Clone, Copy)]
 pub enum Answer {
     Accepted,
     Refused(Refusal),

@@ -1,4 +1,6 @@
 // What the map program writes for component data: the listing of its map, or the line of its refusal.
+#![tactic(auto)]
+
 ghost use Rattle.std.specs.Prelude.{min, ◌≡◌, take};
 ghost use Rattle.buffer.specs.Answers.{length_answer_of};
 ghost use Rattle.report.specs.Report.{Reports, ProgramWrites, text_length};

@@ -1,4 +1,6 @@
 // The rows of readings: what a row is, its refusal (7 to 10) or its entry, and all rows of a map in their order.
+#![tactic(auto)]
+
 ghost use Rattle.std.specs.Prelude.{◌≡◌, ◌+◌, ◌*◌, ◌≤◌, ◌<◌, ◌^◌, length};
 ghost use Rattle.refusal.specs.Outcome.{first_refusal};
 ghost use Rattle.refusal.specs.Table.{answer_says};
@@ -13,14 +15,14 @@ use refusal::{Answer, Refusal};
 use sensor::Sensor;
 
 // A sensor with the parts of its uncertainty that do not depend on the torque.
-#[derive(Drop)]
+#[derive(Clone, Copy)]
 pub struct SensorParts {
     pub sensor: Sensor,
     pub fixed: FixedParts,
 }
 
 // What all rows share. There are as many sensors as the kind's number: of two the right one means nothing, of three output is the left one.
-#[derive(Drop)]
+#[derive(Clone, Copy)]
 pub struct Bench {
     pub ratio: u16,
     pub sensors: usize,
@@ -119,7 +121,7 @@ fn uncertainty(bench: Bench, input: u32, output: u32, right: u32) -> u32
 }
 
 // The entry of a row, or its refusal.
-#[derive(Drop)]
+#[derive(Clone, Copy)]
 enum RowEntry {
     Entry(u32),
     Refused(Refusal),

@@ -1,4 +1,6 @@
 // The torque sensors of tags 6, 7 and 9: their nine numbers and ranges.
+#![tactic(auto)]
+
 ghost use Rattle.std.specs.Prelude.{◌≡◌, ◌<◌, get_or};
 ghost use Rattle.grid.specs.Axis.{within, ◌to◌};
 ghost use Rattle.sensor.specs.Sensor.{sensor_ranges, sensor_check, sensor_of, sensor_numbers};
@@ -7,7 +9,7 @@ ghost use Rattle.sensor.specs.Fault.{sensor_fault_of};
 use grid::Range;
 
 // The nine numbers of a sensor, in the order of the data.
-#[derive(Drop)]
+#[derive(Clone, Copy)]
 pub struct Sensor {
     // N, nominal torque in Nm
     pub nominal: u16,
@@ -78,7 +80,7 @@ fn range_at(i: usize) -> Range
 }
 
 // The index of the first number that is outside its range.
-#[derive(Drop)]
+#[derive(Clone, Copy)]
 pub enum SensorFault {
     Nothing,
     OutOfRange(usize),

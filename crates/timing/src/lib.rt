@@ -1,4 +1,6 @@
 // What the benchmark measures and the library for C does not export: roots rounded up, many in one call.
+#![tactic(auto)]
+
 ghost use Rattle.std.specs.Prelude.{◌≡◌, ◌≤◌, length};
 ghost use Rattle.grid.specs.Lists.{overwritten};
 ghost use Rattle.timing.specs.Roots.{roots_of, content};

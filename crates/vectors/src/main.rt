@@ -7,6 +7,8 @@
 //   1 byte: how many questions follow the body.
 // A lent map is its axes, which are the count of speeds and the count of torques, 8 bytes each, and the 32 speeds and 64 torques of 2 bytes; then the lent entries of 4 bytes.
 // Numbers to be written are kind, line and ratio, 2 bytes each, the axes as in a lent map, the input, output and right sensor, nine numbers of 2 bytes each, and the torques of the rows, 4 bytes each.
+#![tactic(auto)]
+
 use buffer::LengthAnswer;
 use component::Component;
 use grid::{Grid, SpeedAxis, TorqueAxis};
@@ -24,7 +26,7 @@ const LENT_ENTRY: u32 = 0xA5A5_A5A5;
 
 const LENT_BYTE: u8 = 0xA5;
 
-#[derive(Drop)]
+#[derive(Clone, Copy)]
 struct Head {
     letter: u8,
     entries: usize,

@@ -1,4 +1,6 @@
 // Writes component data from its numbers, so that a file is made by the library that reads it.
+#![tactic(auto)]
+
 ghost use Rattle.std.specs.Prelude.{◌≡◌, length};
 ghost use Rattle.layout.specs.Length.{longest};
 ghost use Rattle.buffer.specs.Written.{fitted, content_of};

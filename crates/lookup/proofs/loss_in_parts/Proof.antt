@@ -99,7 +99,7 @@ returns-5 c =
     let first_speed = above_first.before in
     let is_map = first_speed.before.before in
     let w = parts.within _ _ _ _ _ (valid is_map) _ _ first_speed.number.ensures.0 above_first.if2.false _ last_speed.number2.ensures.0 below_last.if3.false _ c.before.before.number3.ensures.0 c.before.if4.false in
-    rw (to_z-of_z {w = w64} {z = c.loss-within.result} (record { sfits = c.loss-within.type-inv }), c.loss-within.ensures) (sym (loss_answered _ _ _ (valid is_map) w))
+    rw (to_z-of_z {w = w64} {z = c.loss-within.result} (record { sfits = c.loss-within.type_inv }), c.loss-within.ensures) (sym (loss_answered _ _ _ (valid is_map) w))
 
 pub loss-in-parts-spec : {M : Type 1} → statement M
 loss-in-parts-spec =

@@ -44,7 +44,7 @@ returns : tie.Need-returns
 returns c =
     let speed_found = c.before.before.before.before in
     let start = speed_found.before.before.before in
-    to_z-of_z {w = w64} {z = c.interpolate.result} (record { sfits = c.interpolate.type-inv })
+    to_z-of_z {w = w64} {z = c.interpolate.result} (record { sfits = c.interpolate.type_inv })
     ∙ loss_is _ _ _ _ _ start.requires.0 _ start.requires.1 _ _ speed_found.neighbour.ensures c.before.before.neighbour2.ensures _ c.before.cell-numbers.ensures _ c.interpolate.ensures
 
 pub loss-within-spec : {M : Type 1} → statement M
