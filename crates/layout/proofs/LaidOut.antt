@@ -106,10 +106,14 @@ five_fields_lem bytes kind m n s =
 pub sensors_count : (bytes : List ℕ) (at : ℕ) (tags : List ℕ) (sensors : List Sensor) → SensorsStand bytes at tags sensors → length sensors ≡ length tags
 sensors_count bytes at [] [] h = refl
 sensors_count bytes at (tag ∷ tags) (s ∷ sensors) h = omega (arith, sensors_count bytes (at + 21) tags sensors h.1)
+sensors_count bytes at [] (s ∷ sensors) h = elim h [ ]
+sensors_count bytes at (tag ∷ tags) [] h = elim h [ ]
 
 pub sensors_rules : (bytes : List ℕ) (at : ℕ) (tags : List ℕ) (sensors : List Sensor) → SensorsStand bytes at tags sensors → AllSensorRules sensors
 sensors_rules bytes at [] [] h = tt
 sensors_rules bytes at (tag ∷ tags) (s ∷ sensors) h = (h.0.rules, sensors_rules bytes (at + 21) tags sensors h.1)
+sensors_rules bytes at [] (s ∷ sensors) h = elim h [ ]
+sensors_rules bytes at (tag ∷ tags) [] h = elim h [ ]
 
 pub length_sensor_bytes : (tags : List ℕ) (sensors : List Sensor) → length sensors ≡ length tags → length (sensor_bytes tags sensors) ≡ 21 * length tags
 unfolding sensor_bytes
@@ -149,6 +153,8 @@ from_sensors bytes at (tag ∷ tags) (s ∷ sensors) next e h =
     let first = from_field bytes at tag (exactly 18) body (at + 21) (sensor_ends at s) h.0.there in
     let others = from_sensors bytes (at + 21) tags sensors next (omega arith) h.1 in
     first ∙ rw (others, append_assoc)
+from_sensors bytes at [] (s ∷ sensors) next e h = elim h [ ]
+from_sensors bytes at (tag ∷ tags) [] next e h = elim h [ ]
 
 -- ---- a measured kind
 module _ (input : Sensor) (outputs : List Sensor) (rows : Rows) (kind : ℕ) (count : sensor_count outputs ≡ kind) (low : 2 ≤ kind) (high : kind ≤ 3) where

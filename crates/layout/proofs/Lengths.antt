@@ -125,6 +125,8 @@ module _ (bytes more : List ℕ) where
   sensors_stand : (at : ℕ) (tags : List ℕ) (sensors : List Sensor) → SensorsStand bytes at tags sensors → SensorsStand (bytes ++ more) at tags sensors
   sensors_stand at [] [] h = tt
   sensors_stand at (tag ∷ tags) (s ∷ sensors) h = (sensor_stands at tag s h.0, sensors_stand (at + 21) tags sensors h.1)
+  sensors_stand at [] (s ∷ sensors) h = elim h [ ]
+  sensors_stand at (tag ∷ tags) [] h = elim h [ ]
 
   -- a field that is due at a place ends within the bytes, whichever of its lengths it has
   record Room (at : ℕ) (allowed : ℕ → Bool) : Type 0 where
@@ -156,6 +158,7 @@ module _ (bytes more : List ℕ) where
     sensors_fault : (at : ℕ) (tags : List ℕ) (t : Told) → at + 21 * length tags ≤ longest → SensorsFault bytes at tags t → SensorsFault (bytes ++ more) at tags t
     sensors_fault at (tag ∷ tags) t h (inl f) = inl (field_fault _ _ _ _ t (exact_room at 18 (omega arith)) f)
     sensors_fault at (tag ∷ tags) t h (inr f) = inr (f.0, sensor_stands at tag f.0 f.1, sensors_fault (at + 21) tags t (omega arith) f.2)
+    sensors_fault at [] t h x'' = elim x'' [ ]
 
     fault : (t : Told) → Fault bytes t → Fault (bytes ++ more) t
     fault t (in_kind f) = in_kind (field_fault _ _ _ _ t (exact_room 0 1 (omega arith)) f)

@@ -118,11 +118,14 @@ module _ (bytes : List ℕ) where
       let f : at ≡ next = omega arith in
       rw f
   sensors_read at (tag ∷ tags) (s ∷ sensors) next e h = rw (sensor_read at tag s h.0, sensors_read (at + 21) tags sensors next (omega arith) h.1)
+  sensors_read at [] (s ∷ sensors) next e h = elim h [ ]
+  sensors_read at (tag ∷ tags) [] next e h = elim h [ ]
 
   sensors_refused : (at : ℕ) (tags : List ℕ) (t : Told) → SensorsFault bytes at tags t → sensor_fields bytes at tags ≡ refused t
   unfolding sensor_fields
   sensors_refused at (tag ∷ tags) t (inl f) = rw (field_refused sensor_checked bytes at tag t f)
   sensors_refused at (tag ∷ tags) t (inr f) = rw (sensor_read at tag f.0 f.1, sensors_refused (at + 21) tags t f.2)
+  sensors_refused at [] t x' = elim x' [ ]
 
   -- ---- a measured kind, after m speeds and n torques
   module _ (kind m n : ℕ) (low : 2 ≤ kind) (high : kind ≤ 3) where

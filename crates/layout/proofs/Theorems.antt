@@ -152,6 +152,7 @@ module _ (bytes : List ℕ) where
             all_rules kind m n s (measured input outputs rows) rules,
             laid_again kind m n s (measured input outputs rows) count (measured_fields_lem input outputs rows kind count low high bytes m n stand r none),
           )
+      measured_right [] rows stand r start none = elim stand [ ]
 
       measured_decided : Decided (Fault bytes) (λ (c : Component). Rules c × (layout c ≡ bytes))
       measured_decided = elim (sensors_decided (sensors_start m n) (sensor_tags kind)) [
