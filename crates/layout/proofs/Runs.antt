@@ -194,6 +194,8 @@ module _ (bytes : List ℕ) where
       after_axes 1 m n s ∙ told_as _ t _ (rw (lt-leb (length bytes) (sensors_start m n) more)) e
   fault_refused t (after_rows kind m n (input ∷ outputs) body s h i r more e) =
       after_axes kind m n s ∙ told_as _ t _ (rw (measured_read kind m n h s.axle_stands.kind_range.1 input outputs i body r, lt-leb (length bytes) (rows_end kind m n) more)) e
+  fault_refused t (in_rows kind m n [] s h i f) = elim i [ ]
+  fault_refused t (after_rows kind m n [] body s h i r more e) = elim i [ ]
 
   -- ---- no third case
   module _ (b : AreBytes bytes) where

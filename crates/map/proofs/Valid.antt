@@ -144,11 +144,11 @@ module _ (bytes before after : List ℕ) (are_bytes : AreBytes bytes) (r : Built
   pub data_rules : Rules from_data.says
   data_rules = (sound bytes from_data.says are_bytes from_data.read).0
 
-  speed_count : length from_data.says.speeds ≡ r.grid.speeds.count
-  speed_count = ap length from_data.speeds ∙ b.counts.speeds_length
+  speed_count_lem : length from_data.says.speeds ≡ r.grid.speeds.count
+  speed_count_lem = ap length from_data.speeds ∙ b.counts.speeds_length
 
-  torque_count : length from_data.says.torques ≡ r.grid.torques.count
-  torque_count = ap length from_data.torques ∙ b.counts.torques_length
+  torque_count_lem : length from_data.says.torques ≡ r.grid.torques.count
+  torque_count_lem = ap length from_data.torques ∙ b.counts.torques_length
 
   -- the entry of a point is what stands at its index
   pub entry_there : (s j : ℕ) → s < r.grid.speeds.count → j < r.grid.torques.count → get_or after (s * r.grid.torques.count + j) 0 ≡ entry from_data.says s j
@@ -157,24 +157,24 @@ module _ (bytes before after : List ℕ) (are_bytes : AreBytes bytes) (r : Built
       let k : s * n + j < r.grid.speeds.count * n = omega (arith, row_within s r.grid.speeds.count n h) in
       sym (get_or-take (r.grid.speeds.count * n) after (s * n + j) 0 k)
       ∙ ap (λ (x : List ℕ). get_or x (s * n + j) 0) (sym from_data.entries_are)
-      ∙ entries_by from_data.says n s j torque_count (omega (arith, speed_count)) l
+      ∙ entries_by from_data.says n s j torque_count_lem (omega (arith, speed_count_lem)) l
 
   entry_limit : (k : ℕ) → k < r.grid.speeds.count * r.grid.torques.count → get_or after k 0 ≤ 10000000
   entry_limit k h =
       let n = r.grid.torques.count in
-      let pos : 0 < n = omega (arith, data_rules.torques.at_least, torque_count) in
+      let pos : 0 < n = omega (arith, data_rules.torques.at_least, torque_count_lem) in
       let s : k / n < r.grid.speeds.count = (div-lt_iff_lt-mul pos).1 h in
       let j : k % n < n = mod-lt k pos in
       let e : k / n * n + k % n ≡ k = div-add-mod' k n in
       rw (← e, entry_there (k / n) (k % n) s j)
-      (entry_small from_data.says (k / n) (k % n) data_rules from_data.rows (omega (arith, speed_count)) (omega (arith, torque_count)))
+      (entry_small from_data.says (k / n) (k % n) data_rules from_data.rows (omega (arith, speed_count_lem)) (omega (arith, torque_count_lem)))
 
   pub is_map : valid_map r.grid after ≡ true
   is_map =
       let m = r.grid.speeds.count in
       let n = r.grid.torques.count in
       let t = r.grid.torques.numbers in
-      let two : 2 ≤ n = omega (arith, data_rules.torques.at_least, torque_count) in
+      let two : 2 ≤ n = omega (arith, data_rules.torques.at_least, torque_count_lem) in
       let t0 : get_or from_data.says.torques 0 0 ≡ get_or t 0 0 = ap (λ (x : List ℕ). get_or x 0 0) from_data.torques ∙ get_or-take n t 0 0 (omega arith) in
       let t1 : get_or from_data.says.torques 1 0 ≡ get_or t 1 0 = ap (λ (x : List ℕ). get_or x 1 0) from_data.torques ∙ get_or-take n t 1 0 (omega arith) in
       map_of_lem r.grid after
@@ -189,4 +189,4 @@ module _ (bytes before after : List ℕ) (are_bytes : AreBytes bytes) (r : Built
       })
     where
       product : points from_data.says ≡ r.grid.speeds.count * r.grid.torques.count
-      product = rw (speed_count, torque_count)
+      product = rw (speed_count_lem, torque_count_lem)
