@@ -1,0 +1,9 @@
+-- `axle::axle_build` meets its contract. Assumes nothing.
+use Rattle.layout.specs.Rules.{AreBytes}
+use Rattle.axle.proofs.Building.{builds_for_c}
+use Rattle.axle.proofs.axle_build.Goals as goal
+
+pub returns : goal.returns
+returns c =
+    let are_bytes : AreBytes c.args.«data».now = λ i h. (c.type_inv.data i).fits in
+    builds_for_c _ _ _ c.build-built.result are_bytes c.build-built.ensures _ c.status_of-status.ensures
