@@ -1,5 +1,5 @@
 -- Laws of lists that are given by their indices, and of joined lists. Assumes nothing.
-use Prim.Native.Nat.{ℕ, zero, suc, ◌+◌, ◌*◌, ◌<◌}
+use Prim.Native.Nat.{ℕ, zero, suc, ◌*◌, ◌<◌}
 use Rattle.grid.specs.Lists.{joined, tabulate}
 use lib.ListN.{length, drop, length-append, take}
 use lib.Seq.{take_at, drop_at}

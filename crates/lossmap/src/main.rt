@@ -4,7 +4,8 @@
 ghost use Rattle.std.specs.Prelude.{◌≤◌, ◌≡◌, length};
 ghost use Rattle.lossmap.specs.Input.{input_of, bytes_read};
 
-use libc::{STDERR_FILENO, STDIN_FILENO, STDOUT_FILENO};
+use std::io;
+use std::io::{Read, Stdin};
 
 // How many bytes were read, or that reading failed.
 #[derive(Clone, Copy)]
@@ -13,30 +14,29 @@ enum Input {
     Failed,
 }
 
-// What the answer of the C library's `read` says.
-fn input_of(got: isize, part: &[u8]) -> Input
-    ensures { result ≡ input_of got (length part.now) }
+// What the answer of a read says.
+fn input_of(got: io::Result<usize>) -> Input
+    ensures { result ≡ input_of got }
 {
-    if got < 0 {
-        return Input::Failed;
+    match got {
+        Ok(count) => Input::Bytes(count),
+        Err(_) => Input::Failed,
     }
-    Input::Bytes(io::count(got, part))
 }
 
 // Reads once; no bytes mean that the input has ended.
-fn read_part(part: &mut [u8]) -> Input
+fn read_part(mut stdin: Stdin, part: &mut [u8]) -> Input
     ensures { bytes_read result ≤ length part.old }
 {
-    let got = libc::read(STDIN_FILENO, part);
-    input_of(got, part)
+    input_of(stdin.read(part))
 }
 
 // Reads until the input ends or all of its room is full.
-fn read_input(input: &mut [u8; 32768]) -> Input {
+fn read_input(stdin: Stdin, input: &mut [u8; 32768]) -> Input {
     let buffer: &mut [u8] = &mut input[..];
     let mut length: usize = 0;
     while length < buffer.len() {
-        match read_part(&mut buffer[length..]) {
+        match read_part(stdin, &mut buffer[length..]) {
             Input::Failed => return Input::Failed,
             Input::Bytes(count) => {
                 if count == 0 {
@@ -49,26 +49,36 @@ fn read_input(input: &mut [u8; 32768]) -> Input {
     Input::Bytes(length)
 }
 
-// Writes what the proved function makes of the input.
-fn answer(input: &[u8; 32768], length: usize, entries: &mut [u32; 2048], text: &mut [u8; 65536]) {
-    let count = report::program_output(input, length, entries, text);
-    let whole = &text[..];
-    if !io::write_all(STDOUT_FILENO, &whole[0..count]) {
-        io::write_all(
-            STDERR_FILENO,
-            b"lossmap: could not write all of the answer\n",
-        );
+// Says on standard error what went wrong; where that fails too, nothing is left to be done.
+fn complain(rt: &HostRuntime, words: &[u8]) {
+    match rt.stderr().write_all(words) {
+        Ok(()) => {}
+        Err(_) => {}
     }
 }
 
-fn main() {
+// Writes what the proved function makes of the input.
+fn answer(
+    rt: &HostRuntime,
+    input: &[u8; 32768],
+    length: usize,
+    entries: &mut [u32; 2048],
+    text: &mut [u8; 65536],
+) {
+    let count = report::program_output(input, length, entries, text);
+    let whole = &text[..];
+    match rt.stdout().write_all(&whole[0..count]) {
+        Ok(()) => {}
+        Err(_) => complain(rt, b"lossmap: could not write all of the answer\n"),
+    }
+}
+
+fn main(rt: HostRuntime) {
     let mut input = [0u8; 32768];
     let mut entries = [0u32; 2048];
     let mut text = [0u8; 65536];
-    match read_input(&mut input) {
-        Input::Bytes(length) => answer(&input, length, &mut entries, &mut text),
-        Input::Failed => {
-            io::write_all(STDERR_FILENO, b"lossmap: could not read standard input\n");
-        }
+    match read_input(rt.stdin(), &mut input) {
+        Input::Bytes(length) => answer(&rt, &input, length, &mut entries, &mut text),
+        Input::Failed => complain(&rt, b"lossmap: could not read standard input\n"),
     }
 }

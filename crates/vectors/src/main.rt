@@ -12,11 +12,12 @@
 use buffer::LengthAnswer;
 use component::Component;
 use grid::{Grid, SpeedAxis, TorqueAxis};
-use libc::{STDIN_FILENO, STDOUT_FILENO};
 use lookup::{LossAnswer, NearestAnswer};
 use numbers::Numbers;
 use refusal::{Answer, Refusal};
 use sensor::Sensor;
+use std::io;
+use std::io::{Read, Stdin, Stdout};
 
 // No input has more cases.
 const MOST_CASES: u64 = 1_000_000_000;
@@ -35,13 +36,13 @@ struct Head {
     questions: usize,
 }
 
-fn write_number(name: &[u8], n: u64) {
-    io::write_all(STDOUT_FILENO, name);
-    io::print_decimal(STDOUT_FILENO, n);
+fn write_number(out: Stdout, name: &[u8], n: u64) -> io::Result<()> {
+    out.write_all(name)?;
+    out.print(n)
 }
 
-fn end_line() {
-    io::write_all(STDOUT_FILENO, b"\n");
+fn end_line(out: Stdout) -> io::Result<()> {
+    out.write_all(b"\n")
 }
 
 fn wide(n: u16) -> u64 {
@@ -49,78 +50,80 @@ fn wide(n: u16) -> u64 {
 }
 
 // A name and the first count numbers.
-fn write_numbers(name: &[u8], numbers: &[u16], count: usize) {
-    io::write_all(STDOUT_FILENO, name);
+fn write_numbers(out: Stdout, name: &[u8], numbers: &[u16], count: usize) -> io::Result<()> {
+    out.write_all(name)?;
     let mut i: usize = 0;
     while i < count {
         if i < numbers.len() {
-            write_number(b" ", wide(numbers[i]));
+            write_number(out, b" ", wide(numbers[i]))?;
         }
         i += 1;
     }
+    Ok(())
 }
 
-fn write_sensor(name: &[u8], s: Sensor) {
+fn write_sensor(out: Stdout, name: &[u8], s: Sensor) -> io::Result<()> {
     let numbers = sensor::numbers_of(s);
-    write_numbers(name, &numbers, 9);
+    write_numbers(out, name, &numbers, 9)
 }
 
-fn write_refusal(x: Refusal) {
-    write_number(b"refused ", x.number() as u64);
-    write_number(b" at ", x.place() as u64);
-    end_line();
+fn write_refusal(out: Stdout, x: Refusal) -> io::Result<()> {
+    write_number(out, b"refused ", x.number() as u64)?;
+    write_number(out, b" at ", x.place() as u64)?;
+    end_line(out)
 }
 
-fn write_axle(kind: u16, line: u16, ratio: u16) {
-    write_number(b"kind ", wide(kind));
-    write_number(b" line ", wide(line));
-    write_number(b" ratio ", wide(ratio));
+fn write_axle(out: Stdout, kind: u16, line: u16, ratio: u16) -> io::Result<()> {
+    write_number(out, b"kind ", wide(kind))?;
+    write_number(out, b" line ", wide(line))?;
+    write_number(out, b" ratio ", wide(ratio))
 }
 
-fn write_axes(grid: Grid) {
+fn write_axes(out: Stdout, grid: Grid) -> io::Result<()> {
     let speeds = grid.speeds;
     let torques = grid.torques;
-    write_numbers(b" speeds", &speeds.numbers, speeds.count);
-    write_numbers(b" torques", &torques.numbers, torques.count);
+    write_numbers(out, b" speeds", &speeds.numbers, speeds.count)?;
+    write_numbers(out, b" torques", &torques.numbers, torques.count)
 }
 
-fn write_measured(c: Component) {
-    write_sensor(b" input", c.input);
-    write_sensor(b" output", c.output);
+fn write_measured(out: Stdout, c: Component) -> io::Result<()> {
+    write_sensor(out, b" input", c.input)?;
+    write_sensor(out, b" output", c.output)?;
     if c.kind == 3 {
-        write_sensor(b" right", c.right);
+        write_sensor(out, b" right", c.right)?;
     }
-    write_number(b" rows ", c.rows.start as u64);
-    write_number(b" to ", c.rows.end as u64);
+    write_number(out, b" rows ", c.rows.start as u64)?;
+    write_number(out, b" to ", c.rows.end as u64)
 }
 
-fn write_component(c: Component) {
-    write_axle(c.kind, c.line, c.ratio);
-    write_axes(c.grid);
+fn write_component(out: Stdout, c: Component) -> io::Result<()> {
+    write_axle(out, c.kind, c.line, c.ratio)?;
+    write_axes(out, c.grid)?;
     if c.kind != 1 {
-        write_measured(c);
+        write_measured(out, c)?;
     }
-    end_line();
+    end_line(out)
 }
 
-fn write_reading(data: &[u8]) {
+fn write_reading(out: Stdout, data: &[u8]) -> io::Result<()> {
     let reading = component::read(data);
     let answer = reading.answer;
     match answer {
-        Answer::Accepted => write_component(reading.component),
-        Answer::Refused(x) => write_refusal(x),
+        Answer::Accepted => write_component(out, reading.component),
+        Answer::Refused(x) => write_refusal(out, x),
     }
 }
 
 // The text that was written, or the refusal.
-fn write_text(answer: LengthAnswer, text: &[u8]) {
+fn write_text(out: Stdout, answer: LengthAnswer, text: &[u8]) -> io::Result<()> {
     match answer {
         LengthAnswer::Length(length) => {
             if length <= text.len() {
-                io::write_all(STDOUT_FILENO, &text[0..length]);
+                out.write_all(&text[0..length])?;
             }
+            Ok(())
         }
-        LengthAnswer::Refused(x) => write_refusal(x),
+        LengthAnswer::Refused(x) => write_refusal(out, x),
     }
 }
 
@@ -143,28 +146,28 @@ fn magnitude(z: i64) -> u64 {
     }
 }
 
-fn write_loss(answer: LossAnswer) {
+fn write_loss(out: Stdout, answer: LossAnswer) -> io::Result<()> {
     match answer {
         LossAnswer::Loss(z) => {
             if z < 0 {
-                write_number(b"loss -", magnitude(z));
+                write_number(out, b"loss -", magnitude(z))?;
             } else {
-                write_number(b"loss ", magnitude(z));
+                write_number(out, b"loss ", magnitude(z))?;
             }
-            end_line();
+            end_line(out)
         }
-        LossAnswer::Refused(x) => write_refusal(x),
+        LossAnswer::Refused(x) => write_refusal(out, x),
     }
 }
 
-fn write_nearest(answer: NearestAnswer) {
+fn write_nearest(out: Stdout, answer: NearestAnswer) -> io::Result<()> {
     match answer {
         NearestAnswer::At { speed, torque } => {
-            write_number(b"nearest ", wide(speed));
-            write_number(b" ", wide(torque));
-            end_line();
+            write_number(out, b"nearest ", wide(speed))?;
+            write_number(out, b" ", wide(torque))?;
+            end_line(out)
         }
-        NearestAnswer::Refused(x) => write_refusal(x),
+        NearestAnswer::Refused(x) => write_refusal(out, x),
     }
 }
 
@@ -295,42 +298,49 @@ fn text_kept(text: &[u8], first: usize) -> bool {
     kept
 }
 
-fn write_kept(name: &[u8], kept: bool) {
-    io::write_all(STDOUT_FILENO, name);
+fn write_kept(out: Stdout, name: &[u8], kept: bool) -> io::Result<()> {
+    out.write_all(name)?;
     if kept {
-        io::write_all(STDOUT_FILENO, b" kept\n");
+        out.write_all(b" kept\n")
     } else {
-        io::write_all(STDOUT_FILENO, b" changed\n");
+        out.write_all(b" changed\n")
     }
 }
 
 // The loss and the nearest point for each question.
-fn answer_questions(grid: Grid, entries: &[u32], questions: &[u8]) {
+fn answer_questions(out: Stdout, grid: Grid, entries: &[u32], questions: &[u8]) -> io::Result<()> {
     let mut i: usize = 0;
     while i < questions.len() / 8 {
         let speed = number_at(questions, 8 * i);
         let torque = number_at(questions, 8 * i + 4);
-        write_loss(lookup::loss(grid, entries, speed, torque));
-        write_nearest(lookup::nearest(grid, speed, torque));
+        write_loss(out, lookup::loss(grid, entries, speed, torque))?;
+        write_nearest(out, lookup::nearest(grid, speed, torque))?;
         i += 1;
     }
+    Ok(())
 }
 
 // A head that lends more than there is, a lent map without axes, numbers that are not whole, or a letter that is none of the five.
-fn write_no_case() {
-    io::write_all(STDOUT_FILENO, b"no case\n");
+fn write_no_case(out: Stdout) -> io::Result<()> {
+    out.write_all(b"no case\n")
 }
 
 // A map's listing in the lent text, and the answers to the questions.
-fn use_map(grid: Grid, entries: &[u32], questions: &[u8], room: usize, text: &mut [u8]) {
+fn use_map(
+    out: Stdout,
+    grid: Grid,
+    entries: &[u32],
+    questions: &[u8],
+    room: usize,
+    text: &mut [u8],
+) -> io::Result<()> {
     if text.len() < room {
-        write_no_case();
-        return;
+        return write_no_case(out);
     }
     let listed = listing::write(grid, entries, &mut text[0..room]);
-    write_text(listed, text);
-    write_kept(b"text", text_kept(text, written(listed)));
-    answer_questions(grid, entries, questions);
+    write_text(out, listed, text)?;
+    write_kept(out, b"text", text_kept(text, written(listed)))?;
+    answer_questions(out, grid, entries, questions)
 }
 
 // How many entries a map has; 0 where the counts are not those of a map.
@@ -351,51 +361,55 @@ fn hexadecimal_digit(n: u8) -> u8 {
 }
 
 // Bytes as hexadecimal digits.
-fn write_hexadecimal(bytes: &[u8]) {
+fn write_hexadecimal(out: Stdout, bytes: &[u8]) -> io::Result<()> {
     let mut i: usize = 0;
     while i < bytes.len() {
         let byte = bytes[i];
         let digits = [hexadecimal_digit(byte / 16), hexadecimal_digit(byte)];
-        io::write_all(STDOUT_FILENO, &digits);
+        out.write_all(&digits)?;
         i += 1;
     }
+    Ok(())
 }
 
 // The file that was written, or the refusal, and whether the rest of what was lent is as it was.
-fn write_file(answer: LengthAnswer, file: &[u8]) {
+fn write_file(out: Stdout, answer: LengthAnswer, file: &[u8]) -> io::Result<()> {
     match answer {
-        LengthAnswer::Refused(x) => write_refusal(x),
+        LengthAnswer::Refused(x) => write_refusal(out, x)?,
         LengthAnswer::Length(length) => {
-            write_number(b"written ", length as u64);
-            end_line();
+            write_number(out, b"written ", length as u64)?;
+            end_line(out)?;
             if length <= file.len() {
-                write_hexadecimal(&file[0..length]);
+                write_hexadecimal(out, &file[0..length])?;
             }
-            end_line();
+            end_line(out)?;
         }
     }
-    write_kept(b"file", text_kept(file, written(answer)));
+    write_kept(out, b"file", text_kept(file, written(answer)))
 }
 
 // Writes data from numbers in so much room.
-fn run_write(body: &[u8], room: usize, rows: &mut [u32], text: &mut [u8]) {
+fn run_write(
+    out: Stdout,
+    body: &[u8],
+    room: usize,
+    rows: &mut [u32],
+    text: &mut [u8],
+) -> io::Result<()> {
     if body.len() < 268 {
-        write_no_case();
-        return;
+        return write_no_case(out);
     }
     let torques = (body.len() - 268) / 4;
     if rows.len() < torques {
-        write_no_case();
-        return;
+        return write_no_case(out);
     }
     if text.len() < room {
-        write_no_case();
-        return;
+        return write_no_case(out);
     }
     decode_entries(&body[268..], rows);
     let numbers = decode_handed(body, &body[6..214]);
     let answer = writer::write(numbers, &rows[0..torques], &mut text[0..room]);
-    write_file(answer, text);
+    write_file(out, answer, text)
 }
 
 // The part of the data that its rows occupy, as torques; how many there are.
@@ -424,18 +438,16 @@ fn same_bytes(data: &[u8], file: &[u8]) -> bool {
 }
 
 // Writes the numbers of data that was accepted again, in just the room that it needs, and says whether the bytes are the same.
-fn write_again(data: &[u8], rows: &mut [u32], text: &mut [u8]) {
+fn write_again(out: Stdout, data: &[u8], rows: &mut [u32], text: &mut [u8]) -> io::Result<()> {
     let reading = component::read(data);
     let c = reading.component;
     let torques = decode_rows(data, c.rows.start, c.rows.end, rows);
     let room = data.len();
     if rows.len() < torques {
-        write_no_case();
-        return;
+        return write_no_case(out);
     }
     if text.len() < room {
-        write_no_case();
-        return;
+        return write_no_case(out);
     }
     let grid = c.grid;
     let input = c.input;
@@ -452,14 +464,15 @@ fn write_again(data: &[u8], rows: &mut [u32], text: &mut [u8]) {
     };
     let answer = writer::write(numbers, &rows[0..torques], &mut text[0..room]);
     if (written(answer) == room) & same_bytes(data, text) {
-        io::write_all(STDOUT_FILENO, b"written again\n");
+        out.write_all(b"written again\n")
     } else {
-        io::write_all(STDOUT_FILENO, b"written otherwise\n");
+        out.write_all(b"written otherwise\n")
     }
 }
 
 // Builds the map of data in lent entries, the first of those that there are.
 fn run_build(
+    out: Stdout,
     data: &[u8],
     questions: &[u8],
     lent: usize,
@@ -467,10 +480,9 @@ fn run_build(
     entries: &mut [u32],
     rows: &mut [u32],
     text: &mut [u8],
-) {
+) -> io::Result<()> {
     if entries.len() < lent {
-        write_no_case();
-        return;
+        return write_no_case(out);
     }
     fill_entries(entries);
     let built = map::build(data, &mut entries[0..lent]);
@@ -478,62 +490,64 @@ fn run_build(
     let answer = built.answer;
     match answer {
         Answer::Refused(x) => {
-            write_refusal(x);
-            write_kept(b"entries", entries_kept(entries, 0));
+            write_refusal(out, x)?;
+            write_kept(out, b"entries", entries_kept(entries, 0))
         }
         Answer::Accepted => {
             write_kept(
+                out,
                 b"entries",
                 entries_kept(entries, entry_count(grid.speeds.count, grid.torques.count)),
-            );
-            write_again(data, rows, text);
+            )?;
+            write_again(out, data, rows, text)?;
             fill_text(text);
-            use_map(grid, &entries[0..lent], questions, room, text);
+            use_map(out, grid, &entries[0..lent], questions, room, text)
         }
     }
 }
 
 // A map as a caller may lend it, whatever its numbers are.
 fn run_map(
+    out: Stdout,
     body: &[u8],
     questions: &[u8],
     lent: usize,
     room: usize,
     entries: &mut [u32],
     text: &mut [u8],
-) {
+) -> io::Result<()> {
     if entries.len() < lent {
-        write_no_case();
-        return;
+        return write_no_case(out);
     }
     if body.len() < 208 {
-        write_no_case();
-        return;
+        return write_no_case(out);
     }
     let grid = decode_axes(&body[0..208]);
     decode_entries(&body[208..], entries);
-    use_map(grid, &entries[0..lent], questions, room, text);
+    use_map(out, grid, &entries[0..lent], questions, room, text)
 }
 
-fn run_program(data: &[u8], entries: &mut [u32], text: &mut [u8]) {
+fn run_program(out: Stdout, data: &[u8], entries: &mut [u32], text: &mut [u8]) -> io::Result<()> {
     let answer = report::write(data, entries, text);
-    write_text(answer, text);
+    write_text(out, answer, text)
 }
 
 fn run_body(
+    out: Stdout,
     head: Head,
     body: &[u8],
     questions: &[u8],
     entries: &mut [u32],
     rows: &mut [u32],
     text: &mut [u8],
-) {
+) -> io::Result<()> {
     fill_text(text);
     let letter = head.letter;
     match letter {
-        b'r' => write_reading(body),
-        b'p' => run_program(body, entries, text),
+        b'r' => write_reading(out, body),
+        b'p' => run_program(out, body, entries, text),
         b'b' => run_build(
+            out,
             body,
             questions,
             head.entries,
@@ -542,53 +556,66 @@ fn run_body(
             rows,
             text,
         ),
-        b'm' => run_map(body, questions, head.entries, head.room, entries, text),
-        b'w' => run_write(body, head.room, rows, text),
-        _ => write_no_case(),
+        b'm' => run_map(out, body, questions, head.entries, head.room, entries, text),
+        b'w' => run_write(out, body, head.room, rows, text),
+        _ => write_no_case(out),
+    }
+}
+
+// Fills the bytes from standard input; false where it ends before, or cannot be read.
+fn read_whole(mut stdin: Stdin, bytes: &mut [u8]) -> bool {
+    match stdin.read_exact(bytes) {
+        Ok(()) => true,
+        Err(_) => false,
     }
 }
 
 // Reads the body of a case and its questions, and writes the answers; false where it is not whole.
 fn answer_case(
+    stdin: Stdin,
+    out: Stdout,
     head: Head,
     body: &mut [u8],
     entries: &mut [u32],
     rows: &mut [u32],
     text: &mut [u8],
-) -> bool {
+) -> io::Result<bool> {
     let length = head.length;
     if body.len() < length {
-        return false;
+        return Ok(false);
     }
     if (body.len() - length) / 8 < head.questions {
-        return false;
+        return Ok(false);
     }
     let all = length + 8 * head.questions;
-    if io::read_full(STDIN_FILENO, &mut body[0..all]) != all {
-        return false;
+    if !read_whole(stdin, &mut body[0..all]) {
+        return Ok(false);
     }
     run_body(
+        out,
         head,
         &body[0..length],
         &body[length..all],
         entries,
         rows,
         text,
-    );
-    true
+    )?;
+    Ok(true)
 }
 
 // Reads a case and writes its number and its answers; false where no whole case is left.
 fn run_case(
+    stdin: Stdin,
+    out: Stdout,
     number: u64,
     body: &mut [u8],
     entries: &mut [u32],
     rows: &mut [u32],
     text: &mut [u8],
-) -> bool {
+) -> io::Result<bool> {
     let mut start = [0u8; 12];
-    if io::read_full(STDIN_FILENO, &mut start) != 12 {
-        return false;
+    if !read_whole(stdin, &mut start) {
+        return Ok(false);
     }
     let head = Head {
         letter: start[0],
@@ -597,25 +624,40 @@ fn run_case(
         length: fields::four(start[7], start[8], start[9], start[10]) as usize,
         questions: fields::pair(0, start[11]) as usize,
     };
-    write_number(b"case ", number);
-    end_line();
-    answer_case(head, body, entries, rows, text)
+    write_number(out, b"case ", number)?;
+    end_line(out)?;
+    answer_case(stdin, out, head, body, entries, rows, text)
 }
 
-fn run(body: &mut [u8], entries: &mut [u32], rows: &mut [u32], text: &mut [u8]) {
+fn run(
+    stdin: Stdin,
+    out: Stdout,
+    body: &mut [u8],
+    entries: &mut [u32],
+    rows: &mut [u32],
+    text: &mut [u8],
+) -> io::Result<()> {
     let mut number: u64 = 0;
     while number < MOST_CASES {
-        if !run_case(number, body, entries, rows, text) {
-            return;
+        if !run_case(stdin, out, number, body, entries, rows, text)? {
+            return Ok(());
         }
         number += 1;
     }
+    Ok(())
 }
 
-fn main() {
+fn main(rt: HostRuntime) -> io::Result<()> {
     let mut body = [0u8; 65536];
     let mut entries = [0u32; 2048];
     let mut rows = [0u32; 8192];
     let mut text = [0u8; 65536];
-    run(&mut body, &mut entries, &mut rows, &mut text);
+    run(
+        rt.stdin(),
+        rt.stdout(),
+        &mut body,
+        &mut entries,
+        &mut rows,
+        &mut text,
+    )
 }

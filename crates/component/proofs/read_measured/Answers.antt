@@ -2,12 +2,6 @@
 use Rattle.component.specs.Component.{measured_fields, rows}
 use Rattle.fields.proofs.Heads.{inside, head_refused, body_accepted}
 use mathlib.Core.Path.{refl}
-use Rattle.component.proofs.read_measured.Lts as lts
-use Rattle.component.proofs.read_outputs.Reads as read-outputs-reads
-use Rattle.component.proofs.rows_length.Reads as rows-length-reads
-use Rattle.component.proofs.rows_tag.Reads as rows-tag-reads
-use Rattle.fields.proofs.Cursor.field.Reads as field-reads
-use Rattle.fields.proofs.Cursor.sensor.Reads as sensor-reads
 use Rattle.component.proofs.read_measured.Goals as goal
 
 pub returns-in-Refused : goal.returns-in-Refused

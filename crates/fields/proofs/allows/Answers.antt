@@ -1,4 +1,3 @@
-
 use Rattle.fields.proofs.allows.Goals as goal
 
 pub returns-in-Exactly : goal.returns-in-Exactly

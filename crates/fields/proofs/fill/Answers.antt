@@ -1,4 +1,3 @@
-
 use Rattle.fields.proofs.Pairs.{none_filled, one_filled, all_filled}
 use Rattle.fields.proofs.fill.Goals as goal
 

@@ -1,4 +1,3 @@
-
 use Prim.Native.Nat.{◌-◌}
 use Rattle.fields.proofs.Pairs.{Filled}
 use Rattle.fields.proofs.fill.Given as goal

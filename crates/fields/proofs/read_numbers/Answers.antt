@@ -1,4 +1,3 @@
-
 use mathlib.Core.Path.{refl}
 use Prim.Native.Nat.{◌<◌, ◌/◌}
 use native.Mathlib.Omega.{arith}

@@ -1,4 +1,3 @@
-
 use Rattle.refusal.specs.Outcome.{accepted}
 use mathlib.Core.Path.{refl, ap, ◌∙◌}
 use Prim.Native.Nat.{◌<◌}

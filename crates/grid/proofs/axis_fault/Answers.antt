@@ -3,7 +3,6 @@ use Prim.Native.Nat.{zero-le}
 use mathlib.Core.Path.{refl, sym, ◌∙◌}
 use native.Mathlib.Nat.{sub-zero}
 use borrow.Author.Rules.{rules}
-use borrow.Author.Tests.{not-true, not-false}
 use Rattle.grid.specs.Axis.{axis_numbers}
 use Rattle.refusal.proofs.First.{first_none, first_more, first_stops}
 use Rattle.grid.proofs.Numbers.{number_right, number_outside, number_level}

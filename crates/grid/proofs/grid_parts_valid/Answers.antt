@@ -1,6 +1,5 @@
 -- `grid::grid_parts_valid` meets its contract. Assumes nothing.
 use mathlib.Core.Path.{sym, ◌∙◌}
-use borrow.Author.Tests.{not-true, not-false}
 use Rattle.grid.specs.Map.{valid_grid}
 use Rattle.grid.proofs.grid_parts_valid.Goals as goal
 

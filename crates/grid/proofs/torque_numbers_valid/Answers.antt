@@ -1,6 +1,6 @@
 -- `grid::torque_numbers_valid` meets its contract. Assumes nothing.
 use mathlib.Core.Path.{sym, ◌∙◌}
-use borrow.Author.Tests.{le-leb, lt-leb, not-true, not-false}
+use borrow.Author.Tests.{le-leb, lt-leb}
 use Rattle.grid.specs.Axis.{valid_numbers, first_step}
 use Rattle.grid.specs.Map.{valid_torques}
 use Rattle.grid.proofs.torque_numbers_valid.Goals as goal

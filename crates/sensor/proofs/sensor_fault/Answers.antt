@@ -1,4 +1,3 @@
-
 use Rattle.sensor.proofs.Sensors.{number_inside, number_outside}
 use Prim.Native.Nat.{zero-le}
 use mathlib.Core.Path.{refl, sym, ◌∙◌}

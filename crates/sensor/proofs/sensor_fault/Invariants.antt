@@ -1,4 +1,3 @@
-
 use Prim.Native.Nat.{◌-◌, ◌≤◌}
 use mathlib.Core.Path.{◌≡◌}
 use Rattle.refusal.specs.Outcome.{first_refusal}

@@ -1,4 +1,3 @@
-
 use mathlib.Core.Path.{◌≡◌}
 use native.Mathlib.Omega.{arith}
 use lib.ListN.{length}
@@ -31,9 +30,9 @@ read_numbers-requires c = let l = numbers_length _ _ _ _ _ (body_inside (goal.at
 
 pub returns-in-Refused : goal.returns-in-Refused
 returns-in-Refused c = record {
-      numbers_after = head_refused _ _ _ _ _ _ (rw c.in-Refused.is at c.field.ensures);
-      count_within = tt;
-    }
+  numbers_after = head_refused _ _ _ _ _ _ (rw c.in-Refused.is at c.field.ensures);
+  count_within = tt;
+}
 
 pub returns-in-Refused-read_numbers : goal.returns-in-Refused-read_numbers
 returns-in-Refused-read_numbers c =

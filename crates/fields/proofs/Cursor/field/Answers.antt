@@ -1,4 +1,3 @@
-
 use mathlib.Core.Path.{sym, ◌∙◌}
 use Rattle.fields.proofs.Heads.{no_bytes, incomplete, other_tag, not_allowed, past_end, whole}
 use Rattle.fields.proofs.Cursor.field.Goals as goal

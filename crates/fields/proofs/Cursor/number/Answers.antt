@@ -1,4 +1,3 @@
-
 use mathlib.Core.Path.{◌≡◌}
 use Rattle.refusal.specs.Outcome.{accepted}
 use native.Mathlib.Omega.{arith}

@@ -1,4 +1,3 @@
-
 use mathlib.Core.Path.{◌≡◌}
 use native.Mathlib.Omega.{arith}
 use Rattle.refusal.specs.Outcome.{accepted}
