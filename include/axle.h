@@ -1,7 +1,7 @@
 /* Axle loss maps: the library for C, libaxle.a (x86-64).
 
    Link with: gcc -Iinclude program.c target/staticlib/libaxle.a
-   `rt staticlib axle` proves the library and writes it.
+   `tools/static-library axle` proves the library and writes it.
 
    Units. On an axis a speed is in whole rpm and a torque in whole Nm, both at
    the wheel. Entries, losses and measured torques: hundredths of Nm. A question's

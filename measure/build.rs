@@ -1,4 +1,4 @@
-//! Links target/staticlib/libtiming.a of the repository, which `rt staticlib timing` writes.
+//! Links target/staticlib/libtiming.a of the repository, which `tools/static-library timing` writes.
 
 use std::path::Path;
 
@@ -9,7 +9,7 @@ fn main() {
     println!("cargo:rerun-if-changed={}", library.display());
     if !library.is_file() {
         eprintln!("The library is missing: {}", library.display());
-        eprintln!("Make it with `rt staticlib timing` at the repository's root, which needs the Rattle kit.");
+        eprintln!("Make it with `tools/static-library timing` at the repository's root, which needs the Rattle kit.");
         std::process::exit(1);
     }
     println!("cargo:rustc-link-search=native={}", folder.display());

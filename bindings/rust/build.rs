@@ -1,4 +1,4 @@
-//! Links target/staticlib/libaxle.a of the repository, which `rt staticlib axle` writes.
+//! Links target/staticlib/libaxle.a of the repository, which `tools/static-library axle` writes.
 
 use std::path::{Path, PathBuf};
 
@@ -22,7 +22,7 @@ fn repository() -> PathBuf {
 fn stop_without(library: &Path) -> ! {
     eprintln!("The library is missing: {}", library.display());
     eprintln!(
-        "Make it with `rt staticlib axle` at the repository's root, which needs the Rattle kit."
+        "Make it with `tools/static-library axle` at the repository's root, which needs the Rattle kit."
     );
     std::process::exit(1);
 }

@@ -261,7 +261,7 @@ pub extern "C" fn axle_listing(
     entries: &[u32],
     text: &mut [u8],
 ) -> AxleLength
-    ensures value { result ≡
+    ensures answer { result ≡
         length_of
         (listed (grid_of speeds.now speed_count torques.now torque_count) entries.now (length text.old)) }
     ensures text_after { text.new ≡
@@ -276,7 +276,7 @@ pub extern "C" fn axle_listing(
 // Writes component data from its numbers, and the torques of its rows in the order of the data, to the first bytes of the lent file.
 #[unsafe(no_mangle)]
 pub extern "C" fn axle_write(numbers: AxleNumbers, rows: &[u32], file: &mut [u8]) -> AxleLength
-    ensures value { result ≡ length_of (written (numbers_in numbers) rows.now (length file.old)) }
+    ensures answer { result ≡ length_of (written (numbers_in numbers) rows.now (length file.old)) }
     ensures file_after { file.new ≡ file_after (numbers_in numbers) rows.now file.old }
 {
     let handed = numbers_in(numbers);

@@ -252,9 +252,9 @@ enum MeasuredRead {
 
 fn read_measured(data: &[u8], start: Cursor, kind: u16, points: usize) -> MeasuredRead
     requires { points ≤ 2048 }
-    ensures result_value { measured_read_of «data».now kind result ≡ measured_fields «data».now start.at kind points }
+    ensures answer { measured_read_of «data».now kind result ≡ measured_fields «data».now start.at kind points }
     ensures rows_within { RowsWithin (length «data».now) result }
-    ensures no_right_measured { NoRightMeasured kind result }
+    ensures no_right { NoRightMeasured kind result }
 {
     let input = match start.sensor(data, 6) {
         SensorFieldRead::Refused(x) => return MeasuredRead::Refused(x),

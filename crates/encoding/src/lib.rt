@@ -114,8 +114,8 @@ fn write_axle(kind: u8, line: u8, ratio: u16, file: &mut [u8], at: usize) -> usi
 
 // Tags 4 and 5.
 fn write_axes(grid: Grid, file: &mut [u8], at: usize) -> usize
-    requires count_bound { (grid.speeds.count ≤ 32) × (grid.torques.count ≤ 64) }
-    requires count_in_bounds { at + 6 + 2 * grid.speeds.count + 2 * grid.torques.count ≤ length file.old }
+    requires counts { (grid.speeds.count ≤ 32) × (grid.torques.count ≤ 64) }
+    requires room { at + 6 + 2 * grid.speeds.count + 2 * grid.torques.count ≤ length file.old }
     ensures { TextWritten
         (field_bytes 4 (number_bytes (speeds_of grid.speeds)) ++ field_bytes 5 (number_bytes (torques_of grid.torques)))
         file.old at result file.new }
@@ -165,8 +165,8 @@ fn write_rows(kind: u16, torques: &[u32], file: &mut [u8], at: usize) -> usize
 
 // From tag 6 on; data of kind 1 ends there.
 fn write_measured(numbers: Numbers, rows: &[u32], file: &mut [u8], at: usize) -> usize
-    requires rows_value { numbers_check numbers (length rows.now) ≡ accepted tt }
-    requires at_bound { (at ≤ 211) × (longest ≤ length file.old) }
+    requires passed { numbers_check numbers (length rows.now) ≡ accepted tt }
+    requires room { (at ≤ 211) × (longest ≤ length file.old) }
     ensures { TextWritten (measured_bytes (says numbers rows.now).kind) file.old at result file.new }
 {
     let kind = numbers.kind;
@@ -179,8 +179,8 @@ fn write_measured(numbers: Numbers, rows: &[u32], file: &mut [u8], at: usize) ->
 
 // Lays out numbers that passed their tests, with the torques of their rows, from the start of the file on, and tells the length.
 pub fn encode(numbers: Numbers, rows: &[u32], file: &mut [u8]) -> usize
-    requires rows_value { numbers_check numbers (length rows.now) ≡ accepted tt }
-    requires longest_in_bounds { longest ≤ length file.old }
+    requires passed { numbers_check numbers (length rows.now) ≡ accepted tt }
+    requires room { longest ≤ length file.old }
     ensures { TextWritten (layout (says numbers rows.now)) file.old 0 result file.new }
 {
     let axes_at = write_axle(

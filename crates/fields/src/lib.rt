@@ -243,7 +243,7 @@ impl Cursor {
 
     // The field of axis numbers, from two to as many as there are places lent; they are written to the first of these.
     pub fn axis(self, data: &[u8], tag: u8, range: Range, numbers: &mut [u16]) -> AxisRead
-        ensures numbers_after { axis_read_of result numbers.new ≡
+        ensures answer { axis_read_of result numbers.new ≡
             field «data».now self.at tag (numbers_from 2 (length numbers.old)) (axis range) }
         ensures count_within { CountWithin (length numbers.old) result }
     {

@@ -71,8 +71,8 @@ fn rows_length(
     entries: &[u32],
 ) -> usize
     requires { (speed_count ≤ 32) × (torque_count ≤ 64) × (speed_count * torque_count ≤ length entries.now) }
-    ensures value { result ≡ length (rows speeds.now speed_count torques.now torque_count entries.now) }
-    ensures upper_bound { result ≤ 135168 }
+    ensures answer { result ≡ length (rows speeds.now speed_count torques.now torque_count entries.now) }
+    ensures at_most { result ≤ 135168 }
 {
     let mut total: usize = 0;
     let mut first: usize = 0;
@@ -147,7 +147,7 @@ fn write_valid(
     text: &mut [u8],
 ) -> LengthAnswer
     requires { (speed_count ≤ 32) × (torque_count ≤ 64) × (speed_count * torque_count ≤ length entries.now) }
-    ensures result_value { length_answer_of result ≡
+    ensures answer { length_answer_of result ≡
         fitted 11
         (listing (grid_of speeds.now speed_count torques.now torque_count) entries.now)
         (length text.old) }
@@ -177,7 +177,7 @@ fn write_valid(
 
 // Writes the listing of a map from the start of the text, and answers its length. 22 is tested first, then 11, whose place is that length.
 pub fn write(grid: Grid, entries: &[u32], text: &mut [u8]) -> LengthAnswer
-    ensures result_value { length_answer_of result ≡ listed grid entries.now (length text.old) }
+    ensures answer { length_answer_of result ≡ listed grid entries.now (length text.old) }
     ensures text_after { text.new ≡ content_of (length_answer_of result) (listing grid entries.now) text.old }
 {
     let speeds = grid.speeds;
@@ -201,7 +201,7 @@ pub fn write_in_parts(
     entries: &[u32],
     text: &mut [u8],
 ) -> LengthAnswer
-    ensures result_value { length_answer_of result ≡
+    ensures answer { length_answer_of result ≡
         listed (grid_of speeds.now speed_count torques.now torque_count) entries.now
         (length text.old) }
     ensures text_after { text.new ≡
@@ -229,9 +229,9 @@ fn write_refusal_line(number: u8, place: usize, text: &mut [u8]) -> usize
 
 // Writes the line of a refusal from the start of the text, or answers 11 with the bytes needed.
 pub fn write_refusal(x: Refusal, text: &mut [u8]) -> LengthAnswer
-    ensures result_value { length_answer_of result ≡ fitted 11 (refusal_line (told x)) (length text.old) }
+    ensures answer { length_answer_of result ≡ fitted 11 (refusal_line (told x)) (length text.old) }
     ensures text_after { text.new ≡ content_of (length_answer_of result) (refusal_line (told x)) text.old }
-    ensures x_len_bound { length (refusal_line (told x)) ≤ 53 }
+    ensures short { length (refusal_line (told x)) ≤ 53 }
 {
     let number = x.number();
     let place = x.place();

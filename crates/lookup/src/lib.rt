@@ -84,7 +84,7 @@ fn loss_within(
     speed: u64,
     torque: u64,
 ) -> i64
-    requires entries_value { valid_map (grid_of speeds.now speed_count torques.now torque_count) entries.now ≡ true }
+    requires is_map { valid_map (grid_of speeds.now speed_count torques.now torque_count) entries.now ≡ true }
     requires within { Within (take speed_count speeds.now) (take torque_count torques.now) (record { speed = speed; torque = torque }) }
     ensures { result ≡
         loss_at (take speed_count speeds.now) (take torque_count torques.now) entries.now

@@ -114,7 +114,7 @@ fn build_measured(
         × (place + length rows.now < 2 ^ 64)
         × (length torques.now ≤ 64)
         × (speeds ≤ 32) }
-    ensures result_value { answer_says result ≡ first_refusal (speed_part_check (bench_of bench) torques.now rows.now place) 0 speeds }
+    ensures answer { answer_says result ≡ first_refusal (speed_part_check (bench_of bench) torques.now rows.now place) 0 speeds }
     ensures entries_written { EntriesWritten result entries.new
         (joined (speed_part_entries (bench_of bench) torques.now rows.now) speeds) entries.old }
 {

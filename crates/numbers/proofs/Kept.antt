@@ -25,7 +25,7 @@ use Rattle.layout.specs.Rules.{FitFourBytes, AllSensorRules, rows_head, Measured
 use Rattle.layout.proofs.FieldBytes.{length_torque_bytes}
 use Rattle.layout.proofs.LaidBytes.{torque_bytes_are, kind_range}
 use Rattle.numbers.specs.Check.{axle_check, axis_check, axes_check, sensors_check, measured_check, numbers_check}
-use Rattle.numbers.specs.Says.{says, CountsSaid, NumbersRules}
+use Rattle.numbers.specs.Says.{says, NumbersRules}
 use Rattle.numbers.specs.declared.Numbers.{Numbers}
 use Rattle.numbers.proofs.Checks.{count_within, counts_within}
 

@@ -194,7 +194,7 @@ fn fill_speed(
         × (row_start (bench_of bench) (length torques.now) ≤ length rows.now)
         × (length torques.now ≤ length entries.old)
         × (place + length rows.now < 2 ^ 64) }
-    ensures result_value { answer_says result ≡ first_refusal (part_check (bench_of bench) torques.now rows.now place) 0 (length torques.now) }
+    ensures answer { answer_says result ≡ first_refusal (part_check (bench_of bench) torques.now rows.now place) 0 (length torques.now) }
     ensures filled { Filled result entries.new (tabulate (part_entry (bench_of bench) rows.now) (length torques.now))
         entries.old }
 {
@@ -228,7 +228,7 @@ pub fn fill_rows(
         × (row_start (bench_of bench) (speeds * length torques.now) ≤ length rows.now)
         × (speeds * length torques.now ≤ length entries.old)
         × (place + length rows.now < 2 ^ 64) }
-    ensures result_value { answer_says result ≡ first_refusal (speed_part_check (bench_of bench) torques.now rows.now place) 0 speeds }
+    ensures answer { answer_says result ≡ first_refusal (speed_part_check (bench_of bench) torques.now rows.now place) 0 speeds }
     ensures filled { Filled result entries.new
         (joined (speed_part_entries (bench_of bench) torques.now rows.now) speeds) entries.old }
 {

@@ -5,12 +5,12 @@ use Rattle.grid.specs.Parts.{grid_of}
 use Rattle.grid.specs.declared.Grid.{Grid}
 use Rattle.sensor.specs.declared.Sensor.{Sensor}
 use Rattle.loss.specs.Standard.{standard_entry}
-use Rattle.loss.specs.Measured.{calibration, sensor_uncertainty, sensor_steps, Row, row_uncertainty, measured_entry}
+use Rattle.loss.specs.Measured.{sensor_uncertainty, sensor_steps, Row, row_uncertainty, measured_entry}
 use Rattle.rows.specs.Rows.{row_check}
-use Rattle.map.specs.Build.{LossMap, entries, build}
+use Rattle.map.specs.Build.{LossMap, build}
 use Rattle.buffer.specs.Bytes.{bytes}
 use Rattle.report.specs.Report.{report}
-use Rattle.cell.specs.Cell.{Point, share}
+use Rattle.cell.specs.Cell.{Point}
 use Rattle.lookup.specs.Loss.{loss_answer}
 use Rattle.lookup.specs.Nearest.{GridPoint, nearest_answer}
 use Rattle.worked.specs.Data.{standard_data}

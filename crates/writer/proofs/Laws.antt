@@ -9,7 +9,7 @@ use borrow.Author.Tests.{eq-eqb, ne_eqb}
 use lib.Dec.{leb}
 use lib.ListN.{length, get_or, take, drop}
 use lib.Seq.{take-append_seam, take_all}
-use Rattle.refusal.specs.Outcome.{accepted, refuse, ◌>>=◌, without_place}
+use Rattle.refusal.specs.Outcome.{accepted, refuse, without_place}
 use Rattle.refusal.proofs.Steps.{same_value, then_accepted, test_accepted, placed_accepted}
 use Rattle.grid.specs.Axis.{◌to◌, within}
 use Rattle.grid.specs.Lists.{overwritten}

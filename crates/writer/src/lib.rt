@@ -13,7 +13,7 @@ use refusal::{Answer, Refusal};
 
 // Copies data to the first bytes of the file, where there is room for it.
 fn write_fitting(data: &[u8], file: &mut [u8]) -> LengthAnswer
-    ensures result_value { length_answer_of result ≡ fitted 30 «data».now (length file.old) }
+    ensures answer { length_answer_of result ≡ fitted 30 «data».now (length file.old) }
     ensures file_after { file.new ≡ content_of (length_answer_of result) «data».now file.old }
 {
     let length = data.len();
@@ -26,7 +26,7 @@ fn write_fitting(data: &[u8], file: &mut [u8]) -> LengthAnswer
 
 // Builds the map of data, which tests its rows, and copies the data where it is accepted.
 fn write_accepted(data: &[u8], entries: &mut [u32], file: &mut [u8]) -> LengthAnswer
-    ensures result_value { length_answer_of result ≡ after_build «data».now (length entries.old) (length file.old) }
+    ensures answer { length_answer_of result ≡ after_build «data».now (length entries.old) (length file.old) }
     ensures file_after { file.new ≡ content_of (length_answer_of result) «data».now file.old }
 {
     let built = map::build(data, entries);

@@ -5,6 +5,6 @@ use Rattle.axle.proofs.axle_listing.Goals as goal
 
 pub returns : goal.returns
 returns c = record {
-      value = c.length_of.ensures ∙ ap length_of c.write_in_parts.ensures.result_value;
-      text_after = rw (← c.write_in_parts.ensures.result_value) c.write_in_parts.ensures.text_after;
-    }
+  answer = c.length_of.ensures ∙ ap length_of c.write_in_parts.ensures.answer;
+  text_after = rw (← c.write_in_parts.ensures.answer) c.write_in_parts.ensures.text_after;
+}

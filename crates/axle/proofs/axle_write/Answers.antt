@@ -8,6 +8,6 @@ returns c =
     let made = c.numbers_in-handed.ensures in
     let done = c.write.ensures in
     record {
-      value = c.length_of.ensures ∙ ap length_of (rw made at done.outcome);
+      answer = c.length_of.ensures ∙ ap length_of (rw made at done.outcome);
       file_after = rw made at done.content;
     }

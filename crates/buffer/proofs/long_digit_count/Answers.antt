@@ -16,13 +16,13 @@ pub loop-rest-init : goal.loop-rest-init
 loop-rest-init c = sym (zero-add _)
 
 pub overflow_add-count : goal.overflow_add-count
-overflow_add-count c = omega (arith, fits c.before)
+overflow_add-count c = omega (arith, fits (goal.at.overflow_add-count c).At-loop-rest)
 
 pub loop-rest-preserved : goal.loop-rest-preserved
 loop-rest-preserved c = c.loop-rest.invariant ∙ rw (count_four _ c.loop-rest-test.true) (sym (add_assoc _ _ _))
 
 pub overflow_add-result : goal.overflow_add-result
-overflow_add-result c = omega (arith, fits c.before.before)
+overflow_add-result c = omega (arith, fits (goal.at.overflow_add-result c).At-loop-rest)
 
 pub returns : goal.returns
-returns c = (omega arith, omega (arith, fits c.before.before))
+returns c = (omega arith, omega (arith, fits (goal.at.returns c).At-loop-rest))

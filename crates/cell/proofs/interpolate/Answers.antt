@@ -13,7 +13,7 @@ area : (c : Start) → (c.args.cell.x1 - c.args.cell.x0) * (c.args.cell.y1 - c.a
 area c = mul-le-mul {n₂ = 30000} {m₂ = 5000000} (omega arith) (omega arith)
 
 pub overflow_mul-cell : goal.overflow_mul-cell
-overflow_mul-cell c = record { fits = lt_of_le_of_lt (area c.before.before.before.before.before.before.before.before.before.before.before.before.before) (lit< tt) }
+overflow_mul-cell c = record { fits = lt_of_le_of_lt (area (goal.at.overflow_mul-cell c).Start) (lit< tt) }
 
 pub ceiling-requires : goal.ceiling-requires
 ceiling-requires c = (mul-pos (omega arith) (omega arith), omega arith, omega arith)

@@ -29,16 +29,15 @@ returns-then-end-data c =
 
 pub returns : goal.returns
 returns c =
-    let kind = c.before.before.before in
-    let axle_is = rw kind.in-Read.is at kind.read_axle.ensures in
-    let axes_are = kind.read_axes-axes.ensures in
-    let kind_is = kind.read_kind.ensures in
-    let whole = all_read _ _ axle_is _ (rw kind.in-Read-answer.is at axes_are.0) _ (points _ axes_are.1) _ (rw kind.in-Read-read_kind.is at kind_is.0) c.if-end-data.false in
+    let axle_is = rw c.in-Read.is at c.read_axle.ensures in
+    let axes_are = c.read_axes-axes.ensures in
+    let kind_is = c.read_kind.ensures in
+    let whole = all_read _ _ axle_is _ (rw c.in-Read-answer.is at axes_are.0) _ (points _ axes_are.1) _ (rw c.in-Read-read_kind.is at kind_is.0) c.if-end-data.false in
     rw c.accepted.ensures
     (record {
       outcome = whole;
-      kind = kind_said _ _ axle_is kind.in-Read-read_kind.measured _ _ _ _ whole;
+      kind = kind_said _ _ axle_is c.in-Read-read_kind.measured _ _ _ _ whole;
       counts = axes_are.1;
-      rows = rw kind.in-Read-read_kind.is at kind_is.1;
-      unstated = rw kind.in-Read-read_kind.is at kind_is.2;
+      rows = rw c.in-Read-read_kind.is at kind_is.1;
+      unstated = rw c.in-Read-read_kind.is at kind_is.2;
     })

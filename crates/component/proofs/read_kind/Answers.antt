@@ -19,4 +19,4 @@ pub returns : goal.returns
 unfolding kind_fields
 returns c =
     let e = ne_eqb _ _ c.if-kind-eq1.false in
-    (measured_kind _ _ c.read_measured.result e ∙ rw e c.read_measured.ensures.result_value, c.read_measured.ensures.rows_within, absent_of_other _ c.read_measured.result c.if-kind-eq1.false c.read_measured.ensures.no_right_measured)
+    (measured_kind _ _ c.read_measured.result e ∙ rw e c.read_measured.ensures.answer, c.read_measured.ensures.rows_within, absent_of_other _ c.read_measured.result c.if-kind-eq1.false c.read_measured.ensures.no_right)

@@ -7,19 +7,19 @@ use Rattle.component.proofs.read_measured.Goals as goal
 pub returns-in-Refused : goal.returns-in-Refused
 unfolding measured_fields
 returns-in-Refused c = record {
-      result_value = rw (← (rw c.in-Refused.is at c.sensor.ensures));
-      rows_within = tt;
-      no_right_measured = tt;
-    }
+  answer = rw (← (rw c.in-Refused.is at c.sensor.ensures));
+  rows_within = tt;
+  no_right = tt;
+}
 
 pub returns-in-Refused-read_outputs : goal.returns-in-Refused-read_outputs
 unfolding measured_fields
 returns-in-Refused-read_outputs c =
     let input_is = rw c.in-Read.is at c.sensor.ensures in
     record {
-      result_value = rw (← input_is, ← (rw c.in-Refused-read_outputs.is at c.read_outputs.ensures.0));
+      answer = rw (← input_is, ← (rw c.in-Refused-read_outputs.is at c.read_outputs.ensures.0));
       rows_within = tt;
-      no_right_measured = tt;
+      no_right = tt;
     }
 
 pub returns-in-Refused-field : goal.returns-in-Refused-field
@@ -29,9 +29,9 @@ returns-in-Refused-field c =
     let outputs_are = rw c.in-Read-read_outputs.is at c.read_outputs.ensures.0 in
     let h = rw (c.rows_tag.ensures, c.rows_length-length.ensures) at (rw c.in-Refused-field.is at c.field.ensures) in
     record {
-      result_value = rw (← input_is, ← outputs_are, ← head_refused _ _ _ _ rows _ h);
+      answer = rw (← input_is, ← outputs_are, ← head_refused _ _ _ _ rows _ h);
       rows_within = tt;
-      no_right_measured = tt;
+      no_right = tt;
     }
 
 pub returns-in-Field : goal.returns-in-Field
@@ -43,7 +43,7 @@ returns-in-Field c =
     let h = rw (c.rows_tag.ensures, c.rows_length-length.ensures) at (rw c.in-Field.is at c.field.ensures) in
     let i = inside _ _ _ _ _ h in
     record {
-      result_value = rw (← input_is, ← outputs_are, ← body_accepted _ _ _ _ rows _ h _ refl);
+      answer = rw (← input_is, ← outputs_are, ← body_accepted _ _ _ _ rows _ h _ refl);
       rows_within = (i.forward, i.ends);
-      no_right_measured = no_right;
+      no_right = no_right;
     }

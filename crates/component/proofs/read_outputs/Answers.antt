@@ -19,8 +19,7 @@ returns-in-Refused-sensor c =
 
 pub returns-in-Read-sensor : goal.returns-in-Read-sensor
 unfolding output_tags sensor_fields
-returns-in-Read-sensor c =
-    (
-      rw (ne_eqb _ _ c.if-kind-eq2.false, ← (rw c.in-Read.is at c.sensor.ensures), ← (rw c.in-Read-sensor.is at c.sensor-2.ensures)),
-      λ e. absurd (c.if-kind-eq2.false e),
-    )
+returns-in-Read-sensor c = (
+  rw (ne_eqb _ _ c.if-kind-eq2.false, ← (rw c.in-Read.is at c.sensor.ensures), ← (rw c.in-Read-sensor.is at c.sensor-2.ensures)),
+  λ e. absurd (c.if-kind-eq2.false e),
+)

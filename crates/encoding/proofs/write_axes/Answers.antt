@@ -9,7 +9,7 @@ use Rattle.encoding.proofs.write_axes.Goals as goal
 pub write_axis-requires : goal.write_axis-requires
 write_axis-requires c =
     let axis = c.args.grid.speeds in
-    (omega arith, c.requires.count_bound.1, omega (arith, length_numbers_field 4 (speeds_of axis), length-take axis.count axis.numbers, c.requires, c.write_axis-torques_at.ensures.after, c.write_axis-torques_at.auto))
+    (omega arith, c.requires.counts.1, omega (arith, length_numbers_field 4 (speeds_of axis), length-take axis.count axis.numbers, c.requires, c.write_axis-torques_at.ensures.after, c.write_axis-torques_at.auto))
 
 pub returns : goal.returns
 returns c =

@@ -15,17 +15,17 @@ returns-then-kind-eq1 c = rw (eq-eqb _ 1 c.if-kind-eq1.true) (written_nothing _ 
 pub write_rows-requires : goal.write_rows-requires
 write_rows-requires c =
     let g = c.args.numbers in
-    let small = sizes g c.args.rows.now c.requires.rows_value in
+    let small = sizes g c.args.rows.now c.requires.passed in
     let low : 2 ≤ g.kind = omega (arith, small.kind, c.if-kind-eq1.false) in
     let few = small.rows low in
     let sensors = length_sensors g.input g.output g.right g.kind low small.kind.1 in
-    (omega (arith, few), omega (arith, few, sensors, c.requires.at_bound, c.write_sensors-rows_at.ensures.after, c.write_sensors-rows_at.auto))
+    (omega (arith, few), omega (arith, few, sensors, c.requires.room, c.write_sensors-rows_at.ensures.after, c.write_sensors-rows_at.auto))
 
 pub returns : goal.returns
 returns c =
     let g = c.args.numbers in
-    let small = sizes g c.args.rows.now c.requires.rows_value in
+    let small = sizes g c.args.rows.now c.requires.passed in
     let low : 2 ≤ g.kind = omega (arith, small.kind, c.if-kind-eq1.false) in
     let sensors = length_sensors g.input g.output g.right g.kind low small.kind.1 in
     rw (← measured_bytes_lem g.input g.output g.right g.kind low small.kind.1 _)
-    (written_then c.write_sensors-rows_at.ensures c.write_rows.ensures (omega (arith, sensors, c.requires.at_bound)))
+    (written_then c.write_sensors-rows_at.ensures c.write_rows.ensures (omega (arith, sensors, c.requires.room)))

@@ -31,19 +31,18 @@ pub overflow_add-first : goal.overflow_add-first
 overflow_add-first c = omega (arith, within (goal.at.overflow_add-first c).In-loop-i)
 
 pub loop-i-preserved : goal.loop-i-preserved
-loop-i-preserved c =
-    (
-      search rules,
-      rw (add-one, suc-mul, c.loop-i.invariant.1),
-      search rules,
-      omega (arith, joined_grows ((row_of_speed c.args.speeds.now c.args.torques.now c.args.torque_count c.args.entries.now)) c.loop-i.i, rw c.loop-i.invariant.1 at c.row_length-total.ensures.0),
-    )
+loop-i-preserved c = (
+  search rules,
+  rw (add-one, suc-mul, c.loop-i.invariant.1),
+  search rules,
+  omega (arith, joined_grows ((row_of_speed c.args.speeds.now c.args.torques.now c.args.torque_count c.args.entries.now)) c.loop-i.i, rw c.loop-i.invariant.1 at c.row_length-total.ensures.0),
+)
 
 pub returns : goal.returns
 unfolding rows
 returns c =
     let done : c.loop-i.i ≡ c.args.speed_count = omega arith in
     record {
-      value = c.loop-i.invariant.3 ∙ rw done;
-      upper_bound = search rules;
+      answer = c.loop-i.invariant.3 ∙ rw done;
+      at_most = search rules;
     }

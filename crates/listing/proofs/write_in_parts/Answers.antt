@@ -13,9 +13,9 @@ is_map c = sym c.map_parts_valid.ensures ∙ c.if-not-map_parts_valid.false
 
 pub returns-then-not-map_parts_valid : goal.returns-then-not-map_parts_valid
 returns-then-not-map_parts_valid c = record {
-      result_value = listed_no_map _ _ _ (sym c.map_parts_valid.ensures ∙ c.if-not-map_parts_valid.true);
-      text_after = refl;
-    }
+  answer = listed_no_map _ _ _ (sym c.map_parts_valid.ensures ∙ c.if-not-map_parts_valid.true);
+  text_after = refl;
+}
 
 pub write_valid-requires : goal.write_valid-requires
 write_valid-requires c =
@@ -24,6 +24,6 @@ write_valid-requires c =
 
 pub returns : goal.returns
 returns c = record {
-      result_value = c.write_valid.ensures.result_value ∙ listed_map _ _ _ (is_map (goal.at.returns c).Else-not-map_parts_valid);
-      text_after = c.write_valid.ensures.text_after;
-    }
+  answer = c.write_valid.ensures.answer ∙ listed_map _ _ _ (is_map (goal.at.returns c).Else-not-map_parts_valid);
+  text_after = c.write_valid.ensures.text_after;
+}

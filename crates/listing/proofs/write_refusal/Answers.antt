@@ -31,10 +31,10 @@ short c = omega (arith, needed c, c.digit_count.ensures, c.digit_count-2.ensures
 
 pub returns-then-text-bytes_needed : goal.returns-then-text-bytes_needed
 returns-then-text-bytes_needed c = record {
-      result_value = fitted_short _ _ _ _ (needed (goal.at.returns-then-text-bytes_needed c).After-digit_count-2) c.if-text-bytes_needed.true;
-      text_after = refl;
-      x_len_bound = short (goal.at.returns-then-text-bytes_needed c).After-digit_count-2;
-    }
+  answer = fitted_short _ _ _ _ (needed (goal.at.returns-then-text-bytes_needed c).After-digit_count-2) c.if-text-bytes_needed.true;
+  text_after = refl;
+  short = short (goal.at.returns-then-text-bytes_needed c).After-digit_count-2;
+}
 
 pub write_refusal_line-length-requires : goal.write_refusal_line-length-requires
 write_refusal_line-length-requires c = rw (told_by (goal.at.write_refusal_line-length-requires c).After-digit_count-2) (omega (arith, needed (goal.at.write_refusal_line-length-requires c).After-digit_count-2))
@@ -44,7 +44,7 @@ returns c =
     let told = told_by (goal.at.returns c).After-digit_count-2 in
     let whole = rw told at c.write_refusal_line-length.ensures in
     record {
-      result_value = fitted_whole _ _ _ _ (whole.after ∙ zero-add _) (omega (arith, needed (goal.at.returns c).After-digit_count-2, whole.after));
+      answer = fitted_whole _ _ _ _ (whole.after ∙ zero-add _) (omega (arith, needed (goal.at.returns c).After-digit_count-2, whole.after));
       text_after = whole.holds ∙ text_start _ _;
-      x_len_bound = short (goal.at.returns c).After-digit_count-2;
+      short = short (goal.at.returns c).After-digit_count-2;
     }

@@ -43,13 +43,12 @@ pub overflow_add-first : goal.overflow_add-first
 overflow_add-first c = omega (arith, within (goal.at.overflow_add-first c).In-loop-i)
 
 pub loop-i-preserved : goal.loop-i-preserved
-loop-i-preserved c =
-    (
-      search rules,
-      rw (add-one, suc-mul, c.loop-i.invariant.1),
-      omega arith,
-      written_next ((row_of_speed c.args.speeds.now c.args.torques.now c.args.torque_count c.args.entries.now)) c.loop-i.i c.loop-i.invariant.3 (rw c.loop-i.invariant.1 at c.write_row-next.ensures) (omega (arith, room (goal.at.loop-i-preserved c).In-loop-i)),
-    )
+loop-i-preserved c = (
+  search rules,
+  rw (add-one, suc-mul, c.loop-i.invariant.1),
+  omega arith,
+  written_next ((row_of_speed c.args.speeds.now c.args.torques.now c.args.torque_count c.args.entries.now)) c.loop-i.i c.loop-i.invariant.3 (rw c.loop-i.invariant.1 at c.write_row-next.ensures) (omega (arith, room (goal.at.loop-i-preserved c).In-loop-i)),
+)
 
 pub shape_of-text : goal.shape_of-text
 shape_of-text c = c.loop-i.invariant.2

@@ -22,9 +22,9 @@ needed c =
 
 pub returns-then-text-needed : goal.returns-then-text-needed
 returns-then-text-needed c = record {
-      result_value = fitted_short _ _ _ _ (omega (arith, needed (goal.at.returns-then-text-needed c).After-rows_length-needed)) (omega arith);
-      text_after = refl;
-    }
+  answer = fitted_short _ _ _ _ (omega (arith, needed (goal.at.returns-then-text-needed c).After-rows_length-needed)) (omega arith);
+  text_after = refl;
+}
 
 pub returns : goal.returns
 unfolding listing
@@ -33,6 +33,6 @@ returns c =
     let first_line = rw c.header-first_line.ensures at c.write_bytes-after_header.ensures in
     let whole = written_then (written_then first_line c.write_byte-rows_at.ensures (omega arith)) c.write_rows-length.ensures (simp length-append (omega arith)) in
     record {
-      result_value = fitted_whole _ _ _ _ (whole.after ∙ zero-add _) (omega (arith, size, whole.after));
+      answer = fitted_whole _ _ _ _ (whole.after ∙ zero-add _) (omega (arith, size, whole.after));
       text_after = whole.holds ∙ text_start _ _;
     }

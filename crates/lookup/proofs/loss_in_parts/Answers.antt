@@ -58,7 +58,7 @@ returns-then-number-q c =
 pub loss_within-requires : goal.loss_within-requires
 loss_within-requires c =
     record {
-      entries_value = valid (goal.at.loss_within-requires c).Else-not-map_parts_valid;
+      is_map = valid (goal.at.loss_within-requires c).Else-not-map_parts_valid;
       within = parts.within _ _ _ _ _ (valid (goal.at.loss_within-requires c).Else-not-map_parts_valid) _ _ c.number.ensures.0 c.if-v-number.false _ c.number-2.ensures.0 c.if-number-v.false _ c.number-3.ensures.0 c.if-number-q.false;
     }
 

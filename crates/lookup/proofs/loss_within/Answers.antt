@@ -12,7 +12,7 @@ use Rattle.lookup.proofs.loss_within.Goals as goal
 use Rattle.lookup.proofs.loss_within.Goals.{Start}
 
 facts : (c : Start) → MapRules (grid_of c.args.speeds.now c.args.speed_count c.args.torques.now c.args.torque_count) c.args.entries.now
-facts c = map_facts _ _ c.requires.entries_value
+facts c = map_facts _ _ c.requires.is_map
 
 pub neighbour-i-requires : goal.neighbour-i-requires
 neighbour-i-requires c =
@@ -30,15 +30,15 @@ neighbour-j-requires c =
 
 pub cell_numbers-cell-requires : goal.cell_numbers-cell-requires
 cell_numbers-cell-requires c =
-    let w = cell_there _ _ _ _ _ c.requires.entries_value _ c.requires.within _ _ c.neighbour-i.ensures c.neighbour-j.ensures in
+    let w = cell_there _ _ _ _ _ c.requires.is_map _ c.requires.within _ _ c.neighbour-i.ensures c.neighbour-j.ensures in
     record { speed = w.speed; torque = w.torque; row = w.row; last = w.last }
 
 pub interpolate-requires : goal.interpolate-requires
 interpolate-requires c =
     rw c.cell_numbers-cell.ensures
-    (cell_bounds _ _ _ _ _ c.requires.entries_value _ c.requires.within _ _ c.neighbour-i.ensures c.neighbour-j.ensures)
+    (cell_bounds _ _ _ _ _ c.requires.is_map _ c.requires.within _ _ c.neighbour-i.ensures c.neighbour-j.ensures)
 
 pub returns : goal.returns
 returns c =
     to_z-of_z {w = w64} {z = c.interpolate.result} (record { sfits = c.interpolate.type_inv })
-    ∙ loss_is _ _ _ _ _ c.requires.entries_value _ c.requires.within _ _ c.neighbour-i.ensures c.neighbour-j.ensures _ c.cell_numbers-cell.ensures _ c.interpolate.ensures
+    ∙ loss_is _ _ _ _ _ c.requires.is_map _ c.requires.within _ _ c.neighbour-i.ensures c.neighbour-j.ensures _ c.cell_numbers-cell.ensures _ c.interpolate.ensures

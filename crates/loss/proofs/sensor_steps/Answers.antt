@@ -26,4 +26,4 @@ pub returns : goal.returns
 returns c =
     let p = c.requires in
     let u = c.sensor_uncertainty-u.ensures in
-    (steps_made _ _ _ p.1 _ _ (is_part c.before) u.0, u.1)
+    (steps_made _ _ _ p.1 _ _ (is_part (goal.at.returns c).After-rounded_up-a) u.0, u.1)

@@ -4,6 +4,6 @@ use Rattle.loss.proofs.standard_entry.Goals as goal
 
 pub returns : goal.returns
 returns c =
-    let l = c.before.before.before.before.line_of-l.ensures in
+    let l = c.line_of-l.ensures in
     found_standard_entry _ _ _ _ l.0 l.1 _ _ _ _
     c.line_product-constant.ensures.0 c.line_product-turning.ensures.0 c.line_product-loaded.ensures.0 c.quotient_up.ensures

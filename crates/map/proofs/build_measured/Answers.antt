@@ -8,14 +8,14 @@ use Rattle.map.proofs.build_measured.Goals as goal
 pub returns-in-Refused : goal.returns-in-Refused
 returns-in-Refused c =
     record {
-      result_value = rw c.in-Refused.is at c.fill_rows.ensures.result_value;
+      answer = rw c.in-Refused.is at c.fill_rows.ensures.answer;
       entries_written = refl;
     }
 
 pub returns-in-Accepted : goal.returns-in-Accepted
 returns-in-Accepted c =
     record {
-      result_value = rw c.in-Accepted.is at c.fill_rows.ensures.result_value;
+      answer = rw c.in-Accepted.is at c.fill_rows.ensures.answer;
       entries_written = rw (own_stretch (speed_part_entries (bench_of c.args.bench) c.args.torques.now c.args.rows.now) _ _ _ _ (speed_size _ _ _ _) (rw c.in-Accepted.is at c.fill_rows.ensures.filled)) at
           c.build_rows.ensures;
     }

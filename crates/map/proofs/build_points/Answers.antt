@@ -56,4 +56,4 @@ build_measured-requires c =
 
 pub returns : goal.returns
 returns c =
-    measured_built _ _ c.requires.0 _ c.requires.1 (λ i h. (c.type_inv.data i).fits) c.if-c-eq1.false _ _ c.if-entries-points.false _ c.bench_of-bench.ensures c.build_measured.result c.build_measured.ensures.result_value c.build_measured.ensures.entries_written
+    measured_built _ _ c.requires.0 _ c.requires.1 (λ i h. (c.type_inv.data i).fits) c.if-c-eq1.false _ _ c.if-entries-points.false _ c.bench_of-bench.ensures c.build_measured.result c.build_measured.ensures.answer c.build_measured.ensures.entries_written

@@ -13,14 +13,12 @@ use Rattle.map.proofs.build_rows.Goals.{In-loop-speed}
 
 -- within the loop: this speed's row lies within what is given, and its entries within all entries
 within : (c : In-loop-speed) →
-    let start = c.before.before.before.before in
-    (c.loop-speed.source + start.args.size ≤ length start.args.from.now) × (c.loop-speed.first + start.args.size ≤ length c.loop-speed.entries) × (c.loop-speed.source + start.args.step ≤ start.args.speeds * start.args.step)
+    (c.loop-speed.source + c.args.size ≤ length c.args.from.now) × (c.loop-speed.first + c.args.size ≤ length c.loop-speed.entries) × (c.loop-speed.source + c.args.step ≤ c.args.speeds * c.args.step)
 within c =
-    let start = c.before.before.before.before in
     let inv = c.loop-speed.invariant in
     let h = c.loop-speed-test.true in
-    let r = room _ _ _ _ (stretch_size _ _ _ _ start.requires.0) _ _ _ _ inv.1 h in
-    (rw inv.0 (source_room _ _ _ _ _ h start.requires.0), omega (arith, r, start.requires.1, inv.1.long), rw inv.0 (row_within _ _ _ h))
+    let r = room _ _ _ _ (stretch_size _ _ _ _ c.requires.0) _ _ _ _ inv.1 h in
+    (rw inv.0 (source_room _ _ _ _ _ h c.requires.0), omega (arith, r, c.requires.1, inv.1.long), rw inv.0 (row_within _ _ _ h))
 
 pub loop-speed-init : goal.loop-speed-init
 loop-speed-init c = (sym (zero-mul _), none_joined _ _ _ _ (stretch_size _ _ _ _ c.requires.0) _)

@@ -75,7 +75,7 @@ fill_speed-requires c =
 pub returns-in-Refused : goal.returns-in-Refused
 returns-in-Refused c =
     record {
-      result_value = refused_there _ _ c.loop-speed.invariant.passed c.loop-speed-test.true _ (sym (speed_check_lem _ _ _ _ _ _ c.loop-speed.invariant.at (within (goal.at.returns-in-Refused c).In-loop-speed).starts _) ∙ sym (rw c.in-Refused.is at c.fill_speed.ensures.result_value));
+      answer = refused_there _ _ c.loop-speed.invariant.passed c.loop-speed-test.true _ (sym (speed_check_lem _ _ _ _ _ _ c.loop-speed.invariant.at (within (goal.at.returns-in-Refused c).In-loop-speed).starts _) ∙ sym (rw c.in-Refused.is at c.fill_speed.ensures.answer));
       filled = tt;
     }
 
@@ -88,12 +88,12 @@ loop-speed-preserved c =
     let inv = c.loop-speed.invariant in
     let args = c.args in
     one_joined _ _ _ _ (speed_size _ _ _ _) _ _ _ _ inv c.loop-speed-test.true
-    (sym (speed_check_lem _ _ _ _ _ _ inv.at (within (goal.at.loop-speed-preserved c).In-loop-speed).starts _) ∙ sym (rw c.in-Accepted.is at c.fill_speed.ensures.result_value)) _
+    (sym (speed_check_lem _ _ _ _ _ _ inv.at (within (goal.at.loop-speed-preserved c).In-loop-speed).starts _) ∙ sym (rw c.in-Accepted.is at c.fill_speed.ensures.answer)) _
     (rw (speed_entries_lem (bench_of args.bench) args.torques.now args.rows.now _ _ _ inv.at (within (goal.at.loop-speed-preserved c).In-loop-speed).starts) at (rw c.in-Accepted.is at c.fill_speed.ensures.filled))
     c.entries-1.given.1
 
 pub returns : goal.returns
 returns c = record {
-  result_value = all_passed _ _ c.loop-speed.invariant.passed c.loop-speed-test.false;
+  answer = all_passed _ _ c.loop-speed.invariant.passed c.loop-speed-test.false;
   filled = all_joined _ _ _ _ (speed_size _ _ _ _) _ _ _ _ c.loop-speed.invariant c.loop-speed-test.false;
 }

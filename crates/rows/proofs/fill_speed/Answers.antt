@@ -46,7 +46,7 @@ row_at-requires c =
 pub returns-in-Refused : goal.returns-in-Refused
 returns-in-Refused c =
     record {
-      result_value = refused_there _ _ c.loop-i.invariant.passed c.loop-i-test.true _ (part_refused _ _ _ _ _ _ (within (goal.at.returns-in-Refused c).In-loop-i).starts _ (rw c.in-Refused.is at c.row_at.ensures));
+      answer = refused_there _ _ c.loop-i.invariant.passed c.loop-i-test.true _ (part_refused _ _ _ _ _ _ (within (goal.at.returns-in-Refused c).In-loop-i).starts _ (rw c.in-Refused.is at c.row_at.ensures));
       filled = tt;
     }
 
@@ -60,6 +60,6 @@ pub returns : goal.returns
 returns c =
     let inv = c.loop-i.invariant in
     record {
-      result_value = all_passed _ _ inv.passed c.loop-i-test.false;
+      answer = all_passed _ _ inv.passed c.loop-i-test.false;
       filled = all_filled _ _ _ _ _ _ inv c.loop-i-test.false;
     }

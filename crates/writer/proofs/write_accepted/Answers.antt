@@ -8,7 +8,7 @@ returns-in-Refused c =
     let built = rw c.in-Refused.is at c.build-built.ensures.outcome in
     let without = c.without_place in
     record {
-      result_value = rows_refused _ _ _ c.in-Refused.x without.result built without.ensures.0 without.ensures.1;
+      answer = rows_refused _ _ _ c.in-Refused.x without.result built without.ensures.0 without.ensures.1;
       file_after = refl;
     }
 
@@ -17,6 +17,6 @@ returns-in-Accepted c =
     let built = c.build-built.ensures.outcome in
     let fits = c.write_fitting.ensures in
     record {
-      result_value = fits.result_value ∙ rows_accepted _ _ _ _ (rw c.in-Accepted.is at built);
+      answer = fits.answer ∙ rows_accepted _ _ _ _ (rw c.in-Accepted.is at built);
       file_after = fits.file_after;
     }

@@ -7,7 +7,7 @@ use Rattle.writer.proofs.write_fitting.Goals as goal
 
 pub returns-then-file-length : goal.returns-then-file-length
 returns-then-file-length c = record {
-  result_value = fitted_short _ _ _ _ refl c.if-file-length.true;
+  answer = fitted_short _ _ _ _ refl c.if-file-length.true;
   file_after = refl;
 }
 
@@ -15,6 +15,6 @@ pub returns : goal.returns
 returns c =
     let copied = c.write_bytes-written.ensures in
     record {
-      result_value = rw (copied.after, zero-add) (fitted_whole _ _ _ _ refl c.if-file-length.false);
+      answer = rw (copied.after, zero-add) (fitted_whole _ _ _ _ refl c.if-file-length.false);
       file_after = copied.holds ∙ text_start _ _;
     }

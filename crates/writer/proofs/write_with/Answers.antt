@@ -11,8 +11,8 @@ returns-in-Refused c = numbers_refused _ _ _ _ (rw c.in-Refused.is at c.check.en
 pub encode-length-requires : goal.encode-length-requires
 encode-length-requires c =
     record {
-      rows_value = sym (rw c.in-Accepted.is at c.check.ensures);
-      longest_in_bounds = omega (arith, c.requires.0);
+      passed = sym (rw c.in-Accepted.is at c.check.ensures);
+      room = omega (arith, c.requires.0);
     }
 
 pub slice_bounds-write_accepted-end : goal.slice_bounds-write_accepted-end
@@ -27,4 +27,4 @@ returns c =
     let fit : FitFourBytes c.args.rows.now = λ i h. (c.type_inv.rows i).fits in
     let laid = c.encode-length.ensures in
     let tested = c.write_accepted.ensures in
-    all_written _ _ _ _ _ fit (rw c.in-Accepted.is at c.check.ensures) _ (first_bytes laid) (rw c.requires.1 at tested.result_value) tested.file_after
+    all_written _ _ _ _ _ fit (rw c.in-Accepted.is at c.check.ensures) _ (first_bytes laid) (rw c.requires.1 at tested.answer) tested.file_after

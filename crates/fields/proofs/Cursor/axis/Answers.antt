@@ -30,20 +30,20 @@ read_numbers-requires c = let l = numbers_length _ _ _ _ _ (body_inside (goal.at
 
 pub returns-in-Refused : goal.returns-in-Refused
 returns-in-Refused c = record {
-  numbers_after = head_refused _ _ _ _ _ _ (rw c.in-Refused.is at c.field.ensures);
+  answer = head_refused _ _ _ _ _ _ (rw c.in-Refused.is at c.field.ensures);
   count_within = tt;
 }
 
 pub returns-in-Refused-read_numbers : goal.returns-in-Refused-read_numbers
 returns-in-Refused-read_numbers c =
     record {
-      numbers_after = body_refused _ _ _ _ _ _ (head_is (goal.at.returns-in-Refused-read_numbers c).In-Field) _ (rw c.in-Refused-read_numbers.is at c.read_numbers.ensures);
+      answer = body_refused _ _ _ _ _ _ (head_is (goal.at.returns-in-Refused-read_numbers c).In-Field) _ (rw c.in-Refused-read_numbers.is at c.read_numbers.ensures);
       count_within = tt;
     }
 
 pub returns-in-Accepted : goal.returns-in-Accepted
 returns-in-Accepted c =
     record {
-      numbers_after = body_accepted _ _ _ _ _ _ (head_is (goal.at.returns-in-Accepted c).In-Field) _ (rw c.in-Accepted.is at c.read_numbers.ensures);
+      answer = body_accepted _ _ _ _ _ _ (head_is (goal.at.returns-in-Accepted c).In-Field) _ (rw c.in-Accepted.is at c.read_numbers.ensures);
       count_within = let l = numbers_length _ _ _ _ _ (body_inside (goal.at.returns-in-Accepted c).In-Field) in (l.1, omega (arith, l.0));
     }
