@@ -1,6 +1,6 @@
 -- What the code's answers say in document 01's terms.
-use Rattle.std.specs.Prelude.{ℕ, ◌≤◌, List, [], ◌∷◌, ◌≡◌, eqb, length}
-use Rattle.refusal.specs.Outcome.{Outcome, accepted, refused, if◌then◌else◌}
+use Rattle.std.specs.Prelude.{ℕ, ◌≤◌, List, [], ◌∷◌, ◌≡◌, eqb, length, if◌then◌else◌}
+use Rattle.refusal.specs.Outcome.{Outcome, accepted, refused}
 use Rattle.refusal.specs.Table.{told}
 use Rattle.grid.specs.Map.{speeds_of, torques_of}
 use Rattle.grid.specs.declared.Grid.{Grid}

@@ -1,6 +1,6 @@
 -- Document 01, "Component data" and "Refusals", and document 02, C-11: the fields of component data in their order, and 12 where more follows.
-use Rattle.std.specs.Prelude.{ℕ, ◌+◌, ◌*◌, List, [], ◌∷◌, leb, eqb, length}
-use Rattle.refusal.specs.Outcome.{Outcome, accepted, ◌>>=◌, require, if◌then◌else◌}
+use Rattle.std.specs.Prelude.{ℕ, ◌+◌, ◌*◌, List, [], ◌∷◌, leb, eqb, length, if◌then◌else◌}
+use Rattle.refusal.specs.Outcome.{Outcome, accepted, ◌>>=◌, require}
 use Rattle.grid.specs.Axis.{◌to◌, first_step}
 use Rattle.fields.specs.Field.{field, exactly, numbers, number, axis}
 use Rattle.fields.specs.Sensor.{sensor}

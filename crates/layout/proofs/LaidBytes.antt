@@ -1,4 +1,5 @@
 -- Numbers that keep their rules are laid out as bytes. Assumes nothing.
+use Rattle.std.specs.Prelude.{if◌then◌else◌}
 use Prim.Native.Nat.{ℕ, zero, suc, ◌≤◌, ◌<◌}
 use mathlib.Core.Bool.{Bool, true, false}
 use mathlib.Core.List.{List, [], ◌∷◌, ◌++◌}
@@ -6,7 +7,6 @@ use native.Mathlib.Nat.{mul-le-mul}
 use native.Mathlib.Omega.{arith}
 use lib.Dec.{eqb}
 use lib.ListN.{length, get_or}
-use Rattle.refusal.specs.Outcome.{if◌then◌else◌}
 use Rattle.grid.specs.Axis.{◌to◌}
 use Rattle.grid.specs.Rules.{InRange, AxisRules}
 use Rattle.component.specs.Component.{Component, Kind, standard, measured, sensor_count, kind_number, output_tags, sensor_tags, rows_tag}

@@ -1,6 +1,6 @@
 -- Document 02, C-12: the reader's tests 3 to 6, in the reader's order and "with place 0", of numbers that are handed over.
-use Rattle.std.specs.Prelude.{ℕ, ◌*◌, List, [], ◌∷◌, eqb, take}
-use Rattle.refusal.specs.Outcome.{Outcome, accepted, ◌>>=◌, require, without_place, if◌then◌else◌}
+use Rattle.std.specs.Prelude.{ℕ, ◌*◌, List, [], ◌∷◌, eqb, take, if◌then◌else◌}
+use Rattle.refusal.specs.Outcome.{Outcome, accepted, ◌>>=◌, require, without_place}
 use Rattle.grid.specs.Axis.{◌to◌, within, axis_numbers, first_step}
 use Rattle.grid.specs.Map.{torques_of}
 use Rattle.grid.specs.declared.Range.{Range}

@@ -1,5 +1,5 @@
 -- What comes of a call in document 01's terms: a value, or a refusal with its number and place. Steps are joined by `do`, so that the order of tests is the order of lines.
-use Rattle.std.specs.Prelude.{ℕ, zero, suc, Bool, true, false}
+use Rattle.std.specs.Prelude.{ℕ, zero, suc, Bool, true, false, if◌then◌else◌}
 
 -- a refusal as document 01 tells it: "Returned" and "Place given"
 pub record Told : Type 0 where
@@ -24,12 +24,6 @@ abbrev pub ◌>>=◌ : {A B : Type 0} → Outcome A → (A → Outcome B) → Ou
 ◌>>=◌ (accepted a) next = next a
 ◌>>=◌ (refused t) next = refused t
 
--- the first where the test holds, the second where it does not
-abbrev pub if◌then◌else◌ : {A : Type 0} → Bool → A → A → A
-if◌then◌else◌ true a b = a
-if◌then◌else◌ false a b = b
-
-infixr 5 if◌then◌else◌
 -- the test must hold: where it does not, this refusal
 abbrev pub require : Bool → (number place : ℕ) → Outcome (Unit {0})
 require test number place = if test then accepted tt else refuse number place

@@ -1,6 +1,6 @@
 -- What the code's answers about a row say in document 01's terms.
-use Rattle.std.specs.Prelude.{ℕ, ◌+◌, ◌≤◌, ◌*◌, ◌≡◌, List, [], ◌∷◌, eqb, length, get_or, drop}
-use Rattle.refusal.specs.Outcome.{Outcome, accepted, refused, ◌>>=◌, placed, first_refusal, if◌then◌else◌}
+use Rattle.std.specs.Prelude.{ℕ, ◌+◌, ◌≤◌, ◌*◌, ◌≡◌, List, [], ◌∷◌, eqb, length, get_or, drop, if◌then◌else◌}
+use Rattle.refusal.specs.Outcome.{Outcome, accepted, refused, ◌>>=◌, placed, first_refusal}
 use Rattle.refusal.specs.Table.{told}
 use Rattle.sensor.specs.Sensor.{SensorRules}
 use Rattle.grid.specs.Lists.{tabulate, overwritten}

@@ -1,6 +1,5 @@
 -- Roots rounded up of a list of numbers.
-use Rattle.std.specs.Prelude.{ℕ, List, leb, length, get_or}
-use Rattle.refusal.specs.Outcome.{if◌then◌else◌}
+use Rattle.std.specs.Prelude.{ℕ, List, leb, length, get_or, if◌then◌else◌}
 use Rattle.grid.specs.Lists.{tabulate, overwritten}
 use Rattle.arith.specs.Root.{root_up}
 
