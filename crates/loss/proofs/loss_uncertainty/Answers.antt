@@ -7,7 +7,7 @@ use Rattle.arith.specs.Root.{root_up}
 use Rattle.loss.specs.Measured.{sum_of_squares, loss_uncertainty}
 use Rattle.loss.proofs.Parts.{next_square, no_square_left, root_at_most}
 use Rattle.loss.proofs.loss_uncertainty.Goals as goal
-use Rattle.loss.proofs.loss_uncertainty.Goals.{After-root_up, After-shared_slice_known-in-loop-i-1}
+use Rattle.loss.proofs.loss_uncertainty.Goals.{After-root_up, In-loop-i}
 
 pub loop-i-init : goal.loop-i-init
 loop-i-init c = (omega arith, omega arith)
@@ -18,14 +18,15 @@ offset_bounds-parts-i c = omega arith
 pub bounds-parts-i : goal.bounds-parts-i
 bounds-parts-i c = omega arith
 
-next : (c : After-shared_slice_known-in-loop-i-1) → sum_of_squares (drop c.loop-i.i c.args.parts.now) ≡ get_or c.args.parts.now c.loop-i.i 0 * get_or c.args.parts.now c.loop-i.i 0 + sum_of_squares (drop (c.loop-i.i + 1) c.args.parts.now)
+-- the squares from i on are that of i and those after it
+next : (c : In-loop-i) → sum_of_squares (drop c.loop-i.i c.args.parts.now) ≡ get_or c.args.parts.now c.loop-i.i 0 * get_or c.args.parts.now c.loop-i.i 0 + sum_of_squares (drop (c.loop-i.i + 1) c.args.parts.now)
 next c = next_square _ _ c.loop-i-test.true
 
 pub overflow_mul-sum : goal.overflow_mul-sum
-overflow_mul-sum c = omega (arith, next c)
+overflow_mul-sum c = omega (arith, next (goal.at.overflow_mul-sum c).In-loop-i)
 
 pub overflow_add-sum : goal.overflow_add-sum
-overflow_add-sum c = omega (arith, next c)
+overflow_add-sum c = omega (arith, next (goal.at.overflow_add-sum c).In-loop-i)
 
 pub overflow_add-i : goal.overflow_add-i
 overflow_add-i c = omega arith
@@ -34,7 +35,7 @@ pub loop-i-smaller : goal.loop-i-smaller
 loop-i-smaller c = omega arith
 
 pub loop-i-preserved : goal.loop-i-preserved
-loop-i-preserved c = (omega arith, omega (arith, next c))
+loop-i-preserved c = (omega arith, omega (arith, next (goal.at.loop-i-preserved c).In-loop-i))
 
 pub root_up-requires : goal.root_up-requires
 root_up-requires c = tt

@@ -5,6 +5,7 @@ use native.Mathlib.Omega.{arith}
 use native.Mathlib.Nat.{zero-mul, suc-mul}
 use native.Mathlib.Numerals.{add-one}
 use lib.ListN.{length, length-drop}
+use borrow.Author.Rules.{rules}
 use Rattle.grid.proofs.Filling.{none_joined, room, one_joined, all_joined, tail_lent}
 use Rattle.grid.proofs.Points.{row_within}
 use Rattle.map.proofs.Copying.{source_room, stretch_size, stretch_is}
@@ -70,7 +71,7 @@ loop-speed-preserved c =
       rw (add-one, suc-mul, inv.0),
       one_joined _ _ _ _ (stretch_size _ _ _ _ c.requires.0) _ _ _ _ inv.1 c.loop-speed-test.true refl _
           (rw (stretch_is _ _ _ _ _ inv.0) at c.build_row.ensures)
-          c.entries-1.given.1,
+          (search rules),
     )
 
 pub returns : goal.returns

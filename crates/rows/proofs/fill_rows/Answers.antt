@@ -3,6 +3,7 @@ use Prim.Native.Nat.{ℕ, ◌+◌, ◌*◌, ◌≤◌}
 use mathlib.Core.Path.{◌≡◌, sym, ap, ◌∙◌}
 use native.Mathlib.Omega.{arith}
 use lib.ListN.{length, length-drop}
+use borrow.Author.Rules.{rules}
 use Rattle.rows.specs.Answers.{bench_of}
 use Rattle.grid.proofs.Filling.{none_joined, room, one_joined, all_joined, tail_lent}
 use Rattle.refusal.proofs.First.{refused_there, all_passed}
@@ -90,7 +91,7 @@ loop-speed-preserved c =
     one_joined _ _ _ _ (speed_size _ _ _ _) _ _ _ _ inv c.loop-speed-test.true
     (sym (speed_check_lem _ _ _ _ _ _ inv.at (within (goal.at.loop-speed-preserved c).In-loop-speed).starts _) ∙ sym (rw c.in-Accepted.is at c.fill_speed.ensures.answer)) _
     (rw (speed_entries_lem (bench_of args.bench) args.torques.now args.rows.now _ _ _ inv.at (within (goal.at.loop-speed-preserved c).In-loop-speed).starts) at (rw c.in-Accepted.is at c.fill_speed.ensures.filled))
-    c.entries-1.given.1
+    (search rules)
 
 pub returns : goal.returns
 returns c = record {

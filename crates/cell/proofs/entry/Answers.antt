@@ -1,6 +1,0 @@
--- `cell::entry` meets its contract. Assumes nothing.
-use native.Mathlib.Omega.{arith}
-use Rattle.cell.proofs.entry.Goals as goal
-
-pub overflow_cast-result : goal.overflow_cast-result
-overflow_cast-result c = omega (arith, c.shared_slice_known-1.given c.args.i)
