@@ -1,4 +1,4 @@
-// The library for C and Rust: include/axle.h says the same for a C programmer.
+// The library for C and Rust: include/axle.h says the same for a C programmer. The crate axle_c exports these functions.
 // Each answer has the refusal's number, 0 where there is none, its place, and the values apart from them. No function requires anything of its caller but that what is lent is there.
 #![tactic(auto)]
 
@@ -185,8 +185,7 @@ fn numbers_in(handed: AxleNumbers) -> Numbers
 }
 
 // Builds the map of component data: its axes in the answer, its entries in the lent slice.
-#[unsafe(no_mangle)]
-pub extern "C" fn axle_build(data: &[u8], entries: &mut [u32]) -> AxleBuilt
+pub fn axle_build(data: &[u8], entries: &mut [u32]) -> AxleBuilt
     ensures { BuildsForC «data».now entries.old entries.new result }
 {
     let built = map::build(data, entries);
@@ -208,8 +207,7 @@ pub extern "C" fn axle_build(data: &[u8], entries: &mut [u32]) -> AxleBuilt
 }
 
 // The loss at a point of a map, speed in tenths of rpm and torque in hundredths of Nm.
-#[unsafe(no_mangle)]
-pub extern "C" fn axle_loss(
+pub fn axle_loss(
     speeds: &[u16; 32],
     speed_count: usize,
     torques: &[u16; 64],
@@ -235,8 +233,7 @@ pub extern "C" fn axle_loss(
 }
 
 // The nearest grid point, speed in tenths of rpm and torque in hundredths of Nm.
-#[unsafe(no_mangle)]
-pub extern "C" fn axle_nearest(
+pub fn axle_nearest(
     speeds: &[u16; 32],
     speed_count: usize,
     torques: &[u16; 64],
@@ -252,8 +249,7 @@ pub extern "C" fn axle_nearest(
 }
 
 // Writes the listing of a map from the start of the lent text.
-#[unsafe(no_mangle)]
-pub extern "C" fn axle_listing(
+pub fn axle_listing(
     speeds: &[u16; 32],
     speed_count: usize,
     torques: &[u16; 64],
@@ -274,8 +270,7 @@ pub extern "C" fn axle_listing(
 }
 
 // Writes component data from its numbers, and the torques of its rows in the order of the data, to the first bytes of the lent file.
-#[unsafe(no_mangle)]
-pub extern "C" fn axle_write(numbers: AxleNumbers, rows: &[u32], file: &mut [u8]) -> AxleLength
+pub fn axle_write(numbers: AxleNumbers, rows: &[u32], file: &mut [u8]) -> AxleLength
     ensures answer { result ≡ length_of (written (numbers_in numbers) rows.now (length file.old)) }
     ensures file_after { file.new ≡ file_after (numbers_in numbers) rows.now file.old }
 {

@@ -14,12 +14,12 @@ enum Input {
     Failed,
 }
 
-// What the answer of a read says.
-fn input_of(got: io::Result<usize>) -> Input
-    ensures { result ≡ input_of got }
+// What the answer of a read into a part says: no more bytes than the part has.
+fn input_of(got: io::Result<usize>, part: &[u8]) -> Input
+    ensures { result ≡ input_of got (length part.now) }
 {
     match got {
-        Ok(count) => Input::Bytes(count),
+        Ok(count) => Input::Bytes(count.min(part.len())),
         Err(_) => Input::Failed,
     }
 }
@@ -28,7 +28,8 @@ fn input_of(got: io::Result<usize>) -> Input
 fn read_part(mut stdin: Stdin, part: &mut [u8]) -> Input
     ensures { bytes_read result ≤ length part.old }
 {
-    input_of(stdin.read(part))
+    let got = stdin.read(part);
+    input_of(got, part)
 }
 
 // Reads until the input ends or all of its room is full.

@@ -1,5 +1,5 @@
 -- What comes of a call in document 01's terms: a value, or a refusal with its number and place. Steps are joined by `do`, so that the order of tests is the order of lines.
-use Rattle.std.specs.Prelude.{ℕ, zero, suc, Bool, true, false, if◌then◌else◌}
+use Rattle.std.specs.Prelude.{ℕ, zero, suc, Bool, if◌then◌else◌}
 
 -- a refusal as document 01 tells it: "Returned" and "Place given"
 pub record Told : Type 0 where

@@ -18,8 +18,7 @@ fn fill_roots(numbers: &[u64], roots: &mut [u64])
 }
 
 // The roots of all numbers, rounded up; where fewer places are lent than there are numbers, nothing is written.
-#[unsafe(no_mangle)]
-pub extern "C" fn timing_roots(numbers: &[u64], roots: &mut [u64])
+pub fn timing_roots(numbers: &[u64], roots: &mut [u64])
     ensures { roots.new ≡ content numbers.now roots.old }
 {
     if numbers.len() <= roots.len() {
