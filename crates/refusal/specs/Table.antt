@@ -1,5 +1,5 @@
 -- Document 01, "Refusals", and document 02, C-12 (30): the number and the place of each case. Where no place is given it is 0.
-use Rattle.std.specs.Prelude.{ℕ}
+use Rattle.std.specs.Prelude.{ℕ, Result, Ok, Err}
 use Rattle.refusal.specs.Outcome.{Told, refusal, Outcome, accepted, refused}
 use Rattle.refusal.specs.declared.Refusal.{Refusal}
 use Rattle.refusal.specs.declared.Refusal.TheVariants.{Incomplete, WrongTag, WrongLength, OutOfRange, NotRising, FirstTorqueAboveStep, AboveNominal, OffAxisTorque, NegativeLoss, EntryTooLarge, TooShort, TrailingBytes, SpeedOutside, TorqueAbove, NotAMap, FileTooShort}
@@ -49,3 +49,13 @@ told r = refusal (number r) (place r)
 abbrev pub answer_says : Answer → Outcome (Unit {0})
 answer_says Accepted = accepted tt
 answer_says (Refused x) = refused (told x)
+
+-- what an answer with a value says in document 01's terms
+abbrev pub outcome_of : {A : Type 0} → Result A Refusal → Outcome A
+outcome_of (Ok value) = accepted value
+outcome_of (Err x) = refused (told x)
+
+-- the same, of what the value stands for
+abbrev pub outcome_as : {A B : Type 0} → (A → B) → Result A Refusal → Outcome B
+outcome_as meaning (Ok value) = accepted (meaning value)
+outcome_as meaning (Err x) = refused (told x)
