@@ -2,15 +2,14 @@
 use Rattle.std.specs.Prelude.{ℕ, ◌*◌, Bool, ◌&&◌, List, leb, length, get_or, take}
 use Rattle.grid.specs.Every.{every}
 use Rattle.grid.specs.Axis.{◌to◌, first_step, valid_numbers}
-use Rattle.grid.specs.declared.SpeedAxis.{SpeedAxis}
-use Rattle.grid.specs.declared.TorqueAxis.{TorqueAxis}
+use Rattle.grid.specs.declared.Axis.{Axis}
 use Rattle.grid.specs.declared.Grid.{Grid}
 
 -- the numbers of an axis
-abbrev pub speeds_of : SpeedAxis → List ℕ
+abbrev pub speeds_of : Axis 32 → List ℕ
 speeds_of axis = take axis.count axis.numbers
 
-abbrev pub torques_of : TorqueAxis → List ℕ
+abbrev pub torques_of : Axis 64 → List ℕ
 torques_of axis = take axis.count axis.numbers
 
 -- tag 4: 2 to 32 speeds, 1 to 3,000 rpm each, rising

@@ -11,7 +11,7 @@ use Rattle.refusal.proofs.Steps.{then_accepted, test_accepted}
 use Rattle.grid.specs.Axis.{◌to◌, within, axis_numbers}
 use Rattle.grid.specs.declared.Range.{Range}
 use Rattle.grid.specs.declared.Grid.{Grid}
-use Rattle.grid.proofs.Axis.{in_range, within_range}
+use Rattle.grid.proofs.AxisLaws.{in_range, within_range}
 use Rattle.fields.specs.Bytes.{between}
 use Rattle.numbers.specs.Check.{axis_check, axes_check}
 
