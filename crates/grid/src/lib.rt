@@ -4,6 +4,7 @@
 ghost use Rattle.std.specs.Prelude.{◌≡◌, ◌&&◌, ◌-◌, ◌<◌, ◌≤◌, leb, length, get_or};
 ghost use Rattle.grid.specs.Every.{every};
 ghost use Rattle.grid.specs.Axis.{within, rises, axis_numbers, valid_numbers};
+ghost use Rattle.grid.specs.Counted.{Counted};
 ghost use Rattle.grid.specs.Fault.{fault_of};
 ghost use Rattle.grid.specs.Map.{valid_speeds, valid_torques, valid_grid};
 
@@ -135,14 +136,24 @@ fn numbers_valid(numbers: &[u16], range: Range) -> bool
     valid
 }
 
+// The numbers of an axis as far as they are counted; none where its count is not from two to its places.
+pub fn counted<const N: usize>(axis: &Axis<N>) -> Option<&[u16]>
+    ensures { Counted N axis.now.numbers axis.now.count result }
+{
+    if axis.count < 2 || N < axis.count {
+        return None;
+    }
+    Some(&axis.numbers[..axis.count])
+}
+
 // Whether an axis has two numbers or more, no more than it has places, each in its range and above the one before.
 fn axis_valid<const N: usize>(axis: &Axis<N>, range: Range) -> bool
     ensures { result ≡ valid_numbers N range axis.now.numbers axis.now.count }
 {
-    if axis.count < 2 || N < axis.count {
-        return false;
+    match counted(axis) {
+        None => false,
+        Some(numbers) => numbers_valid(numbers, range),
     }
-    numbers_valid(&axis.numbers[..axis.count], range)
 }
 
 // Whether a speed axis keeps its rules: 2 to 32 numbers, 1 to 3,000 rpm each, rising.

@@ -1,5 +1,5 @@
 -- `grid::check_axis` meets its contract. The invariant: the outcome of all numbers is that of the numbers from i on. Assumes nothing.
-use Rattle.std.proofs.Common.{refl, sym, ◌∙◌, rules}
+use Rattle.std.proofs.Common.{refl, sym, ◌∙◌}
 use native.Mathlib.Nat.{sub-zero}
 use Rattle.grid.specs.Axis.{axis_numbers}
 use Rattle.refusal.proofs.First.{first_none, first_more, first_stops}
