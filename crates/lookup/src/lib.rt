@@ -185,5 +185,5 @@ fn distance(numbers: &[u16], i: usize, scale: u64, v: u64) -> u64
     ensures { result ≡ distance (scale * get_or numbers.now i 0) v }
 {
     let x = scale * cell::number(numbers, i);
-    arith::part_above(x, v) + arith::part_above(v, x)
+    x.abs_diff(v)
 }
