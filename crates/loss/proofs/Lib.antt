@@ -7,5 +7,4 @@ pub mod Roots
 pub mod Readings
 pub mod Cuts
 pub mod Accuracy
-pub mod Rows
 pub mod ExactCases

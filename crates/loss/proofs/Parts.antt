@@ -1,21 +1,17 @@
 -- A sensor's parts and its uncertainty: the law of U, their bounds, and the steps as the code makes them. Assumes nothing.
-use Prim.Native.Nat.{ℕ, ◌+◌, ◌*◌, ◌≤◌, ◌<◌}
-use mathlib.Core.Path.{◌≡◌, ap}
-use mathlib.Core.List.{List}
+use Prim.Native.Nat.{ℕ, ◌*◌, ◌≤◌, ◌<◌}
+use mathlib.Core.Path.{◌≡◌}
 use native.Mathlib.Omega.{arith}
 use native.Mathlib.Nat.{mul-le-mul}
-use native.Mathlib.Numerals.{add-one}
-use lib.ListN.{length, drop, get_or, drop_of_length-le}
-use lib.Seq.{drop-cons}
 use Rattle.arith.specs.Quotient.{quotient_up, quotient_up_law, quotient_up_least}
 use Rattle.arith.specs.Root.{root_up}
 use Rattle.arith.proofs.Squares.{square_at_most}
 use Rattle.arith.proofs.Roots.{root_up_law}
 use Rattle.sensor.specs.Sensor.{SensorRules}
 use Rattle.sensor.specs.declared.Sensor.{Sensor}
-use Rattle.loss.specs.declared.FixedParts.{FixedParts}
+use Rattle.loss.specs.declared.PreparedSensor.{PreparedSensor}
 use Rattle.loss.specs.declared.Steps.{Steps}
-use Rattle.loss.specs.Measured.{grains_up, temperature_on_sensitivity, temperature_on_zero, calibration, parasitic_loads, fixed_parts, sensor_uncertainty, uncertainty_law, sensor_steps, scaled_uncertainty, sum_of_squares}
+use Rattle.loss.specs.Measured.{grains_up, temperature_on_sensitivity, temperature_on_zero, calibration, parasitic_loads, fixed_parts, sensor_uncertainty, uncertainty_law, sensor_steps, scaled_uncertainty}
 
 -- ---- U
 
@@ -52,26 +48,10 @@ module _ {sensor : Sensor} (rules : SensorRules sensor) where
 
 -- ---- the steps, from the fixed parts
 
-module _ (sensor : Sensor) (C : ℕ) (fixed : FixedParts) (is_fixed : fixed ≡ fixed_parts sensor) where
-  fixed_zero : fixed.zero ≡ grains_up (temperature_on_zero sensor)
-  unfolding fixed_parts
-  fixed_zero = ap (λ (f : FixedParts). f.zero) is_fixed
-
-  fixed_calibration : fixed.calibration ≡ grains_up (calibration sensor)
-  unfolding fixed_parts
-  fixed_calibration = ap (λ (f : FixedParts). f.calibration) is_fixed
-
-  fixed_parasitic : fixed.parasitic ≡ grains_up (parasitic_loads sensor)
-  unfolding fixed_parts
-  fixed_parasitic = ap (λ (f : FixedParts). f.parasitic) is_fixed
-
-  pub fixed_at_most : SensorRules sensor → (fixed.zero ≤ 25000000) × (fixed.calibration ≤ 5000000) × (fixed.parasitic ≤ 5000000)
-  fixed_at_most r = (rw fixed_zero (zero_at_most r), rw fixed_calibration (calibration_at_most r), rw fixed_parasitic (parasitic_at_most r))
-
-  pub steps_made : (a u : ℕ) → a ≡ grains_up (temperature_on_sensitivity sensor C) → u ≡ sensor_uncertainty a fixed.zero fixed.calibration fixed.parasitic →
-      ◌≡◌ {A = Steps} (record { sensitivity = a; zero = fixed.zero; calibration = fixed.calibration; parasitic = fixed.parasitic; uncertainty = u }) (sensor_steps sensor C)
-  unfolding sensor_steps
-  steps_made a u e f = let z = fixed_zero in let c = fixed_calibration in let p = fixed_parasitic in cc
+pub steps_made : (p : PreparedSensor) (C a u : ℕ) → a ≡ grains_up (temperature_on_sensitivity p.sensor C) → u ≡ sensor_uncertainty a p.fixed.zero p.fixed.calibration p.fixed.parasitic →
+    ◌≡◌ {A = Steps} (record { sensitivity = a; zero = p.fixed.zero; calibration = p.fixed.calibration; parasitic = p.fixed.parasitic; uncertainty = u }) (sensor_steps p.sensor C)
+unfolding fixed_parts sensor_steps
+steps_made p C a u e f = let own = p.own in cc
 
 -- ---- scaled by a factor, and summed
 
@@ -83,12 +63,6 @@ scaled_at_most {factor} {U} h k = quotient_at_most (U * factor) 1000 860000000 (
 pub scaled_by_one : (U : ℕ) → scaled_uncertainty 1000 U ≡ U
 unfolding scaled_uncertainty
 scaled_by_one U = let u = quotient_up_law (U * 1000) 1000 (omega arith) in omega (arith, u.not_below, u.near)
-
-pub next_square : (vs : List ℕ) (i : ℕ) → i < length vs → sum_of_squares (drop i vs) ≡ get_or vs i 0 * get_or vs i 0 + sum_of_squares (drop (i + 1) vs)
-next_square vs i h = rw (add-one, drop-cons vs i 0 h)
-
-pub no_square_left : (vs : List ℕ) (i : ℕ) → length vs ≤ i → sum_of_squares (drop i vs) ≡ 0
-no_square_left vs i h = rw (drop_of_length-le vs h)
 
 pub root_at_most : (n most : ℕ) → n ≤ most * most → root_up n ≤ most
 root_at_most n most h = (root_up_law n).least most h

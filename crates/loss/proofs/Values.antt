@@ -1,18 +1,19 @@
 -- The losses, the allowance and the entries as quotients of whole numbers. Assumes nothing.
 use Prim.Native.Nat.{ℕ, ◌+◌, ◌*◌, ◌-◌, ◌≤◌, ◌<◌, max}
-use mathlib.Core.Path.{◌≡◌, sym, ap, ◌∙◌}
+use mathlib.Core.Path.{◌≡◌, ◌∙◌}
 use borrow.Author.Tests.{lt-ltb, le-ltb}
-use mathlib.Core.Bool.{true, false}
 use native.Mathlib.Omega.{arith}
 use native.Mathlib.Decide.{dec_le}
 use lib.Dec.{ltb}
 use Rattle.arith.specs.Quotient.{quotient_up}
-use Rattle.arith.specs.Fraction.{◌over◌, whole, ◌⊕◌, ◌⊗◌, larger, Same}
+use Rattle.arith.specs.Fraction.{◌over◌, whole, ◌⊕◌, ◌⊗◌, larger}
 use Rattle.arith.proofs.Fractions.{Is, is_over, is_whole, is_also, is_subtracted, is_sum, is_difference, is_product, is_natural_product, is_larger}
 use Rattle.loss.specs.declared.Line.{Line}
-use Rattle.loss.specs.Standard.{Usable, line_of, standard_loss, standard_entry}
-use Rattle.loss.specs.Measured.{measured_loss, loss_is_under_zero, allowance, entry_of}
-use Rattle.loss.proofs.Rounding.{same_is, is_same, is_part_above, larger_right, round_up_is, round_up_natural, under_zero_is}
+use Rattle.loss.specs.Standard.{line_of, standard_loss, standard_entry}
+use Rattle.std.proofs.Common.{Option, Some, None}
+use Rattle.std.specs.Option.{SomeIff}
+use Rattle.loss.specs.Measured.{measured_loss, loss_is_under_zero, allowance, entry_of, LossSays}
+use Rattle.loss.proofs.Rounding.{is_same, is_part_above, larger_right, round_up_is, round_up_natural, under_zero_is}
 
 -- ---- the standard loss
 
@@ -39,13 +40,6 @@ pub standard_entry_is : (number ratio torque : ℕ) (l : Line) → l ≡ line_of
     standard_entry number ratio torque ≡ quotient_up (standard_numerator l ratio torque) (10 * l.efficiency)
 unfolding standard_entry
 standard_entry_is number ratio torque l e h = rw (← e) (round_up_natural (standard_loss_is l ratio torque h))
-
--- as the code finds it, from the three terms
-pub found_standard_entry : (number ratio torque : ℕ) (l : Line) → l ≡ line_of number → Usable l → (constant turning loaded entry : ℕ) →
-    constant ≡ l.efficiency * l.t0 * 1000 → turning ≡ l.efficiency * l.t1 * ratio → loaded ≡ 1000 * (100 - l.efficiency) * torque →
-    entry ≡ quotient_up (constant + turning + loaded) (10 * l.efficiency) → entry ≡ standard_entry number ratio torque
-found_standard_entry number ratio torque l e u constant turning loaded entry p q r f =
-    f ∙ rw (p, q, r) (sym (standard_entry_is number ratio torque l e u.least))
 
 -- ---- the measured loss and the allowance, 20,000 to a hundredth of Nm
 
@@ -89,34 +83,12 @@ unfolding entry_of
 entry_is ratio input output uncertainty A a = round_up_is (is_also _ (20000 * output) 20000 (omega arith) (omega arith)
     (is_sum (loss_is ratio input output) (is_part_above (is_also (200 * uncertainty) 0 20000 (omega arith) (omega arith) (is_over uncertainty 100 (omega arith))) a)))
 
--- ---- as the code finds them, from p, the input torque times the ratio
+-- ---- the measured loss as the code finds it
 
-module _ (ratio input output p : ℕ) (is_product : p ≡ input * ratio) where
-  pub found_under_zero : 20 * p < 20000 * output → loss_is_under_zero ratio input output ≡ true
-  found_under_zero h =
-      let k : 20 * (input * ratio) < 20000 * output = omega (arith, is_product) in
-      under_zero_by ratio input output ∙ lt-ltb _ _ k
-
-  pub found_loss : 20000 * output ≤ 20 * p →
-      (loss_is_under_zero ratio input output ≡ false) × Same (20 * p - 20000 * output over 20000) (measured_loss ratio input output)
-  found_loss h =
-      let k : 20000 * output ≤ 20 * (input * ratio) = omega (arith, is_product) in
-      (under_zero_by ratio input output ∙ le-ltb _ _ k, rw is_product (is_same (is_subtracted k (loss_is ratio input output))))
-
-  -- 5 % of the loss is below 1 Nm, or not
-  module _ (twentieth : ℕ) (is_twentieth : twentieth ≡ p - 1000 * output) where
-    pub found_one_newton_metre : twentieth < 2000000 → Same (2000000 over 20000) (allowance ratio input output)
-    found_one_newton_metre h =
-        let s : max (input * ratio - 1000 * output) 2000000 ≡ 2000000 = omega (arith, is_product, is_twentieth) in
-        is_same (rw s at (allowance_is ratio input output))
-
-    pub found_twentieth : 2000000 ≤ twentieth → Same (twentieth over 20000) (allowance ratio input output)
-    found_twentieth h =
-        let s : max (input * ratio - 1000 * output) 2000000 ≡ twentieth = omega (arith, is_product, is_twentieth) in
-        is_same (rw s at (allowance_is ratio input output))
-
-  pub found_entry : (uncertainty A above rest entry : ℕ) → Same (A over 20000) (allowance ratio input output) → above ≡ 200 * uncertainty - A →
-      rest ≡ 20 * p + above - 20000 * output → entry ≡ quotient_up rest 20000 → entry ≡ entry_of ratio input output uncertainty
-  found_entry uncertainty A above rest entry s e f g =
-      let h : rest ≡ 20 * (input * ratio) + (200 * uncertainty - A) - 20000 * output = omega (arith, is_product, e, f) in
-      g ∙ ap (λ (n : ℕ). quotient_up n 20000) h ∙ sym (entry_is ratio input output uncertainty A (same_is (omega arith) s))
+pub loss_says : (ratio input output : ℕ) (loss : Option ℕ) → SomeIff loss (20000 * output ≤ 20 * (input * ratio)) (20 * (input * ratio) - 20000 * output) →
+    LossSays ratio input output loss
+loss_says ratio input output None not_within =
+    let under : 20 * (input * ratio) < 20000 * output = omega arith in
+    under_zero_by ratio input output ∙ lt-ltb _ _ under
+loss_says ratio input output (Some n) found =
+    (under_zero_by ratio input output ∙ le-ltb _ _ found.0, rw found.1 (is_same (is_subtracted found.0 (loss_is ratio input output))))

@@ -1,5 +1,5 @@
 -- Document 01, "Measured loss", and document 02, C-11: any number of output sensors. Ratios and factors are in thousandths, torques and losses in hundredths of Nm, uncertainties in grains. Assumes nothing.
-use Rattle.std.specs.Prelude.{ℕ, ◌+◌, ◌*◌, ◌≤◌, Bool, true, false, List, [], ◌∷◌, map, ◌≡◌, length}
+use Rattle.std.specs.Prelude.{ℕ, ◌+◌, ◌*◌, ◌≤◌, Bool, true, false, List, [], ◌∷◌, map, ◌≡◌, length, Option, Some, None}
 use Rattle.std.proofs.Common.{le_antisymm, arith}
 use Rattle.arith.specs.Quotient.{quotient_up, quotient_up_law, quotient_up_least}
 use Rattle.arith.specs.Root.{root_up}
@@ -9,8 +9,6 @@ use Rattle.sensor.specs.Sensor.{SensorRules}
 use Rattle.sensor.specs.declared.Sensor.{Sensor}
 use Rattle.loss.specs.declared.FixedParts.{FixedParts}
 use Rattle.loss.specs.declared.Steps.{Steps}
-use Rattle.loss.specs.declared.MeasuredLoss.{MeasuredLoss}
-use Rattle.loss.specs.declared.MeasuredLoss.TheVariants.{UnderZero, Loss}
 use Rattle.loss.specs.Rounding.{round_up, part_above, under_zero}
 
 -- ---- one sensor: its parts a, b, g and h and its uncertainty U, in grains; C is its torque in hundredths of Nm
@@ -198,6 +196,6 @@ pub record RowInRange (row : Row) : Type 0 where
 -- ---- what the code answers
 
 -- the code's measured loss is in half micronewton metres, 20,000 to a hundredth of Nm
-abbrev pub LossSays : (ratio input output : ℕ) → MeasuredLoss → Type 0
-LossSays ratio input output UnderZero = loss_is_under_zero ratio input output ≡ true
-LossSays ratio input output (Loss n) = (loss_is_under_zero ratio input output ≡ false) × Same (n over 20000) (measured_loss ratio input output)
+abbrev pub LossSays : (ratio input output : ℕ) → Option ℕ → Type 0
+LossSays ratio input output None = loss_is_under_zero ratio input output ≡ true
+LossSays ratio input output (Some n) = (loss_is_under_zero ratio input output ≡ false) × Same (n over 20000) (measured_loss ratio input output)

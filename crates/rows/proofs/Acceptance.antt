@@ -1,51 +1,47 @@
 -- A row is accepted exactly when it keeps its rules, and refused exactly for the first condition that it meets. Assumes nothing.
 use Prim.Native.Nat.{ℕ, ◌+◌, ◌*◌, ◌≤◌, ◌<◌}
-use mathlib.Core.Path.{◌≡◌, refl, sym, ◌∙◌}
+use mathlib.Core.Path.{◌≡◌, refl, sym}
 use mathlib.Core.Bool.{Bool, true, false, not}
 use mathlib.Core.List.{List, [], ◌∷◌}
 use mathlib.Core.Logic.{◌⊎◌, inl, inr, ⊎_elim}
-use native.Mathlib.Omega.{arith}
 use borrow.Author.Tests.{leb-true, leb-false, le-leb, lt-leb, not-true, not-false}
 use lib.Dec.{leb}
-use Rattle.refusal.specs.Outcome.{refusal, Told, accepted, refused, placed}
+use Rattle.refusal.specs.Outcome.{Told, accepted, refused, placed}
 use Rattle.refusal.proofs.Steps.{never, then_accepted, then_refused, test_accepted, test_refused, require_accepted, require_refused}
 use Rattle.grid.proofs.Every.{and_false, and_fst, and_snd, and_not}
 use Rattle.loss.specs.Measured.{Output, Row, output, loss_is_under_zero, measured_entry}
 use Rattle.rows.specs.Rows.{near_axis, outputs_check, row_check}
-use Rattle.rows.specs.Answers.{row_outcome}
-use Rattle.rows.proofs.RowChecks as rows
-use Rattle.rows.proofs.RowChecks.{outputs_accepted, check_refused}
 use Rattle.rows.specs.Acceptance.{OutputsWithin, OutputsFault, RowRules, RowFault, input_above, output_above, off_axis, negative, too_large}
+use Rattle.rows.proofs.RowSteps.{tests_at, check_at}
 
 -- ---- the outputs, over any list of them
 
-outputs_right : (os : List Output) (place : ℕ) → outputs_check os place ≡ accepted tt → OutputsWithin os
+pub outputs_right : (os : List Output) (place : ℕ) → outputs_check os place ≡ accepted tt → OutputsWithin os
 unfolding outputs_check
 outputs_right [] place e = tt
 outputs_right (o ∷ os) place e =
     let a = test_accepted (leb o.torque (100 * o.sensor.nominal)) 7 place _ tt e in
     (leb-true _ _ a.0, outputs_right os (place + 4) a.1)
 
--- places count from the row's first byte, which is at a start
-outputs_wrong : (os : List Output) (start place : ℕ) (told u : Told) → outputs_check os place ≡ refused u → told ≡ refusal u.number (start + u.place) → OutputsFault os (start + place) told
+outputs_accepted : (os : List Output) (place : ℕ) → OutputsWithin os → outputs_check os place ≡ accepted tt
 unfolding outputs_check
-outputs_wrong [] start place told u e h = never u tt (sym e)
-outputs_wrong (o ∷ os) start place told u e h =
-    let z : start + (place + 4) ≡ start + place + 4 = omega arith in
-    ⊎_elim
-    (λ a. inl (leb-false _ _ a.0, h ∙ rw a.1))
-    (λ a. inr (leb-true _ _ a.0, rw z at (outputs_wrong os start (place + 4) told u a.1 h)))
-    (test_refused (leb o.torque (100 * o.sensor.nominal)) 7 place _ u e)
+outputs_accepted [] place h = refl
+outputs_accepted (o ∷ os) place h = rw (le-leb _ _ h.0, outputs_accepted os (place + 4) h.1)
 
-outputs_refused : (os : List Output) (start place : ℕ) (told : Told) → OutputsFault os (start + place) told
-    → (u : Told) × (outputs_check os place ≡ refused u) × (told ≡ refusal u.number (start + u.place))
+outputs_wrong : (os : List Output) (place : ℕ) (told : Told) → outputs_check os place ≡ refused told → OutputsFault os place told
 unfolding outputs_check
-outputs_refused [] start place told f = absurd f
-outputs_refused (o ∷ os) start place told (inl f) = (refusal 7 place, rw (lt-leb _ _ f.0), f.1)
-outputs_refused (o ∷ os) start place told (inr f) =
-    let z : start + place + 4 ≡ start + (place + 4) = omega arith in
-    let q = outputs_refused os start (place + 4) told (rw z at f.1) in
-    (q.0, rw (le-leb _ _ f.0, q.1), q.2)
+outputs_wrong [] place told e = never told tt (sym e)
+outputs_wrong (o ∷ os) place told e =
+    ⊎_elim
+    (λ a. inl (leb-false _ _ a.0, a.1))
+    (λ a. inr (leb-true _ _ a.0, outputs_wrong os (place + 4) told a.1))
+    (test_refused (leb o.torque (100 * o.sensor.nominal)) 7 place _ told e)
+
+outputs_refused : (os : List Output) (place : ℕ) (told : Told) → OutputsFault os place told → outputs_check os place ≡ refused told
+unfolding outputs_check
+outputs_refused [] place told f = absurd f
+outputs_refused (o ∷ os) place told (inl f) = rw (f.1, lt-leb _ _ f.0)
+outputs_refused (o ∷ os) place told (inr f) = rw (le-leb _ _ f.0) (outputs_refused os (place + 4) told f.1)
 
 -- ---- the row
 
@@ -90,34 +86,31 @@ module _ (torque : ℕ) (row : Row) where
   row_accepted r =
       rw (le-leb _ _ r.input, outputs_accepted row.outputs 4 r.outputs, le-leb _ _ r.not_over, le-leb _ _ r.not_under, r.loss, le-leb _ _ r.small)
 
-  -- the places count from the row's first byte
-  pub row_wrong : (place : ℕ) (told u : Told) → row_check torque row ≡ refused u → told ≡ refusal u.number (place + u.place) → RowFault torque row place told
-  unfolding row_check input_test loss_test
-  row_wrong place told u e h =
+  -- its first byte is at a place
+  pub row_wrong : (place : ℕ) (told : Told) → placed (λ offset. place + offset) (row_check torque row) ≡ refused told → RowFault torque row place told
+  unfolding input_test loss_test
+  row_wrong place told e =
       ⊎_elim
-      (λ a. input_above (leb-false _ _ a.0) (at_start 7 a.1))
+      (λ a. input_above (leb-false _ _ a.0) a.1)
       (λ a.
       let i = leb-true row.input (100 * row.sensor.nominal) a.0 in
       ⊎_elim
-      (λ b. output_above i (outputs_wrong row.outputs place 4 told u b h))
+      (λ b. output_above i (outputs_wrong row.outputs (place + 4) told b))
       (λ b.
-      let o = outputs_right row.outputs 4 b.1 in
+      let o = outputs_right row.outputs (place + 4) b.1 in
       ⊎_elim
-      (λ c. off_axis i o (not_near c.0) (h ∙ rw c.1))
+      (λ c. off_axis i o (not_near c.0) c.1)
       (λ c.
       let n = near_both c.0 in
       ⊎_elim
-      (λ d. negative i o n.0 n.1 (not-false _ d.0) (at_start 9 d.1))
+      (λ d. negative i o n.0 n.1 (not-false _ d.0) d.1)
       (λ d.
-      let f = require_refused (leb (measured_entry row) 10000000) 10 0 u d.1 in
-      too_large i o n.0 n.1 (not-true _ d.0) (leb-false _ _ f.0) (at_start 10 f.1))
-      (test_refused loss_test 9 0 _ u c.1))
-      (test_refused (near_axis torque (output row)) 8 4 _ u b.2))
-      (then_refused (outputs_check row.outputs 4) _ u a.1))
-      (test_refused input_test 7 0 _ u e)
-    where
-      at_start : (number : ℕ) → u ≡ refusal number 0 → told ≡ refusal number place
-      at_start number q = let z : place + 0 ≡ place = omega arith in h ∙ rw (q, z)
+      let f = require_refused (leb (measured_entry row) 10000000) 10 place told d.1 in
+      too_large i o n.0 n.1 (not-true _ d.0) (leb-false _ _ f.0) f.1)
+      (test_refused loss_test 9 place _ told c.1))
+      (test_refused (near_axis torque (output row)) 8 (place + 4) _ told b.2))
+      (then_refused (outputs_check row.outputs (place + 4)) _ told a.1))
+      (test_refused input_test 7 place _ told (rw (check_at torque row place) at e))
 
   -- and back
   not_near_of : (100 * torque + 500 < output row) ⊎ (output row + 500 < 100 * torque) → near_axis torque (output row) ≡ false
@@ -130,13 +123,11 @@ module _ (torque : ℕ) (row : Row) where
   near_of h k = rw (le-leb _ _ h, le-leb _ _ k)
 
   pub row_refused : (place : ℕ) (told : Told) → RowFault torque row place told → placed (λ offset. place + offset) (row_check torque row) ≡ refused told
-  row_refused place told f = check_refused torque row place told (by_fault f)
+  row_refused place told f = rw (check_at torque row place) (by_fault f)
     where
-      by_fault : RowFault torque row place told → refused told ≡ row_outcome torque row place
-      by_fault (input_above h e) = rw e (rows.input_above torque row place h)
-      by_fault (output_above i f) =
-          let q = outputs_refused row.outputs place 4 told f in
-          rw q.2 (rows.output_above torque row place i q.0 q.1)
-      by_fault (off_axis i o h e) = rw e (rows.off_axis torque row place i o (not_near_of h))
-      by_fault (negative i o n m h e) = rw e (rows.negative torque row place i o (near_of n m) h)
-      by_fault (too_large i o n m l h e) = rw e (rows.too_large torque row place i o (near_of n m) l _ refl h)
+      by_fault : RowFault torque row place told → tests_at torque row place ≡ refused told
+      by_fault (input_above h e) = rw (e, lt-leb _ _ h)
+      by_fault (output_above i f) = rw (le-leb _ _ i, outputs_refused row.outputs (place + 4) told f)
+      by_fault (off_axis i o h e) = rw (e, le-leb _ _ i, outputs_accepted row.outputs (place + 4) o, not_near_of h)
+      by_fault (negative i o n m h e) = rw (e, le-leb _ _ i, outputs_accepted row.outputs (place + 4) o, near_of n m, h)
+      by_fault (too_large i o n m l h e) = rw (e, le-leb _ _ i, outputs_accepted row.outputs (place + 4) o, near_of n m, l, lt-leb _ _ h)

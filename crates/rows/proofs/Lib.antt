@@ -1,7 +1,6 @@
-pub mod Torques
-pub mod RowChecks
+pub mod FourBytes
+pub mod RowSteps
 pub mod BenchRows
 pub mod Acceptance
 pub mod RowSensors
 pub mod RowParts
-pub mod SpeedParts

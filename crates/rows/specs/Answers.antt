@@ -1,80 +1,57 @@
 -- What the code's answers about a row say in document 01's terms.
-use Rattle.std.specs.Prelude.{ℕ, ◌+◌, ◌≤◌, ◌*◌, ◌≡◌, List, [], ◌∷◌, eqb, length, get_or, drop, if◌then◌else◌}
-use Rattle.refusal.specs.Outcome.{Outcome, accepted, refused, ◌>>=◌, placed, first_refusal}
-use Rattle.refusal.specs.Table.{told}
+use Rattle.std.specs.Prelude.{ℕ, ◌+◌, ◌≤◌, ◌*◌, List, [], ◌∷◌, length, get_or, drop, Option, Some, None, IfSome}
+use Rattle.std.specs.Option.{option_to_list}
+use Rattle.refusal.specs.Outcome.{Outcome, accepted, ◌>>=◌, placed, first_refusal}
 use Rattle.sensor.specs.Sensor.{SensorRules}
-use Rattle.grid.specs.Lists.{tabulate, overwritten}
-use Rattle.component.specs.Answers.{outputs_of}
 use Rattle.sensor.specs.declared.Sensor.{Sensor}
-use Rattle.loss.specs.Measured.{Output, Row, fixed_parts, measured_entry}
-use Rattle.rows.specs.Rows.{Bench, torque_at, row_at, row_start, row_check}
-use Rattle.rows.specs.declared.SensorParts.{SensorParts}
+use Rattle.grid.specs.Lists.{tabulate}
+use Rattle.loss.specs.Measured.{Output, Row, measured_entry}
+use Rattle.loss.specs.declared.PreparedSensor.{PreparedSensor}
+use Rattle.rows.specs.Rows.{Bench, row_at, row_start, row_check}
 use Rattle.rows.specs.declared.Bench.{Bench as BenchParts}
-use Rattle.rows.specs.declared.RowEntry.{RowEntry}
-use Rattle.rows.specs.declared.RowEntry.TheVariants.{Entry, Refused as RowRefused}
-use Rattle.refusal.specs.declared.Answer.{Answer}
-use Rattle.refusal.specs.declared.Answer.TheVariants.{Accepted, Refused}
+use Rattle.rows.specs.declared.Torques.{Torques}
 
--- the code's bench in the definitions' terms; of two sensors the right one means nothing
+-- the right output's sensor, if there is one
+abbrev pub right_sensor : Option PreparedSensor → List Sensor
+right_sensor None = []
+right_sensor (Some s) = s.sensor ∷ []
+
+-- the code's bench in the definitions' terms
 abbrev pub bench_of : BenchParts → Bench
 bench_of b = record {
   ratio = b.ratio;
   input = b.input.sensor;
-  outputs = outputs_of b.sensors b.output.sensor b.right.sensor;
+  outputs = b.output.sensor ∷ right_sensor b.right;
 }
-
--- a sensor with its own fixed parts
-abbrev pub parts_of : Sensor → SensorParts
-parts_of sensor = record { sensor = sensor; fixed = fixed_parts sensor }
 
 -- a bench of these sensors
-abbrev pub bench_with : (kind ratio : ℕ) (input output right : Sensor) → BenchParts
-bench_with kind ratio input output right = record {
+abbrev pub bench_with : (ratio : ℕ) (input output : Sensor) (right : Option Sensor) → Bench
+bench_with ratio input output right = record {
   ratio = ratio;
-  sensors = kind;
-  input = parts_of input;
-  output = parts_of output;
-  right = parts_of right;
+  input = input;
+  outputs = output ∷ option_to_list right;
 }
 
--- a sensor that keeps its rules, with its own fixed parts
-pub record PartsRight (s : SensorParts) : Type 0 where
-  pub rules : SensorRules s.sensor
-  pub fixed : s.fixed ≡ fixed_parts s.sensor
-
--- two or three sensors, each of them right
+-- each sensor keeps its rules
 pub record BenchRight (b : BenchParts) : Type 0 where
   pub ratio : b.ratio ≤ 20000
-  pub least : 2 ≤ b.sensors
-  pub most : b.sensors ≤ 3
-  pub input : PartsRight b.input
-  pub output : PartsRight b.output
-  pub right : b.sensors ≡ 3 → PartsRight b.right
+  pub input : SensorRules b.input.sensor
+  pub output : SensorRules b.output.sensor
+  pub right : IfSome b.right (λ s. SensorRules s.sensor)
 
 -- the right output, if there is one
-abbrev pub right_output : BenchParts → (torque : ℕ) → List Output
-right_output b torque = if eqb b.sensors 2 then [] else record { sensor = b.right.sensor; torque = torque } ∷ []
+abbrev pub right_output : Option PreparedSensor → (torque : ℕ) → List Output
+right_output None torque = []
+right_output (Some s) torque = record { sensor = s.sensor; torque = torque } ∷ []
 
--- a row from its torques; of two sensors the right torque means nothing
-abbrev pub row_of : BenchParts → (input output right : ℕ) → Row
-row_of b input output right = record {
+-- a row from its torques; where there is no right output its torque means nothing
+abbrev pub row_of : BenchParts → Torques → Row
+row_of b torques = record {
   ratio = b.ratio;
   sensor = b.input.sensor;
-  input = input;
-  outputs = record { sensor = b.output.sensor; torque = output } ∷ right_output b right;
+  input = torques.input;
+  outputs = record { sensor = b.output.sensor; torque = torques.output } ∷ right_output b.right torques.right;
 }
-
--- the right torque of the row that starts at a place, and 0 where there is no right sensor
-abbrev pub right_torque_at : List ℕ → (at sensors : ℕ) → ℕ
-right_torque_at rows at sensors = if eqb sensors 2 then 0 else torque_at rows (at + 8)
-
--- the right torque is 0 where there is no right sensor
-abbrev pub NoRightTorque : BenchParts → (right : ℕ) → Type 0
-NoRightTorque b right = b.sensors ≡ 2 → right ≡ 0
-
-abbrev pub row_entry_of : RowEntry → Outcome ℕ
-row_entry_of (Entry e) = accepted e
-row_entry_of (RowRefused x) = refused (told x)
 
 -- a row whose first byte is at a place: its refusal or its entry
 unfoldable pub row_outcome : ℕ → Row → ℕ → Outcome ℕ
@@ -101,8 +78,3 @@ speed_part_check bench torques rows place speed =
 unfoldable pub speed_part_entries : Bench → List ℕ → List ℕ → ℕ → List ℕ
 speed_part_entries bench torques rows speed =
     tabulate (part_entry bench (drop (row_start bench (speed * length torques)) rows)) (length torques)
-
--- where nothing is refused, the new entries stand before what was there
-abbrev pub Filled : Answer → (after new before : List ℕ) → Type 0
-Filled Accepted after new before = after ≡ overwritten new before
-Filled (Refused x) after new before = Unit {0}

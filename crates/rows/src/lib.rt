@@ -1,256 +1,228 @@
 // The rows of readings: what a row is, its refusal (7 to 10) or its entry, and all rows of a map in their order.
 #![tactic(auto)]
 
-ghost use Rattle.std.specs.Prelude.{◌≡◌, ◌+◌, ◌*◌, ◌≤◌, ◌<◌, ◌^◌, length};
-ghost use Rattle.refusal.specs.Outcome.{first_refusal};
-ghost use Rattle.refusal.specs.Table.{answer_says};
-ghost use Rattle.grid.specs.Lists.{tabulate, joined};
-ghost use Rattle.component.specs.Component.{row_length};
-ghost use Rattle.loss.specs.Measured.{loss_is_under_zero, sensor_steps, row_uncertainty};
-ghost use Rattle.rows.specs.Rows.{torque_at, row_at, row_start, near_axis};
-ghost use Rattle.rows.specs.Answers.{bench_of, parts_of, bench_with, PartsRight, BenchRight, row_of, right_torque_at, NoRightTorque, row_entry_of, row_outcome, part_check, part_entry, speed_part_check, speed_part_entries, Filled};
+ghost use Rattle.std.specs.Prelude.{◌≡◌, ◌+◌, ◌*◌, ◌≤◌, ◌<◌, ◌^◌, length, drop, leb, IfNone, OnOk};
+ghost use Rattle.std.specs.Option.{option_to_list};
+ghost use Rattle.refusal.specs.Outcome.{require, first_refusal};
+ghost use Rattle.refusal.specs.Table.{outcome_of};
+ghost use Rattle.grid.specs.Lists.{tabulate, joined, overwritten};
+ghost use Rattle.component.specs.Component.{sensor_count, row_length};
+ghost use Rattle.loss.specs.Measured.{row_uncertainty};
+ghost use Rattle.rows.specs.Rows.{torque_at, row_at, row_start, near_axis, outputs_check};
+ghost use Rattle.rows.specs.Answers.{bench_of, bench_with, BenchRight, row_of, row_outcome, part_check, part_entry, speed_part_check, speed_part_entries};
 
-use loss::{FixedParts, MeasuredLoss};
-use refusal::{Answer, Refusal};
+use loss::PreparedSensor;
+use refusal::Refusal;
 use sensor::Sensor;
 
-// A sensor with the parts of its uncertainty that do not depend on the torque.
+// In hundredths of Nm.
+const LARGEST_ENTRY: u64 = 10_000_000;
+
+// The bytes of rows, and where the first of them stands in the data.
 #[derive(Clone, Copy)]
-pub struct SensorParts {
-    pub sensor: Sensor,
-    pub fixed: FixedParts,
+pub struct RowBytes<'a> {
+    pub bytes: &'a [u8],
+    pub place: usize,
+    pub ghost within: { place + length bytes.now < 2 ^ 64 },
 }
 
-// What all rows share. There are as many sensors as the kind's number: of two the right one means nothing, of three output is the left one.
+impl RowBytes<'_> {
+    // Those from an index on.
+    fn starting_at(self, at: usize) -> Self
+        requires { at ≤ length self.bytes.now }
+        ensures bytes { result.bytes.now ≡ drop at self.entry.bytes.now }
+        ensures place { result.place ≡ self.entry.place + at }
+    {
+        RowBytes {
+            bytes: &self.bytes[at..],
+            place: self.place + at,
+        }
+    }
+
+    // The torque at an index.
+    fn torque_at(self, at: usize) -> u32
+        requires { at + 4 ≤ length self.bytes.now }
+        ensures { result ≡ torque_at self.entry.bytes.now at }
+    {
+        let bytes = self.bytes;
+        u32::from_be_bytes([bytes[at], bytes[at + 1], bytes[at + 2], bytes[at + 3]])
+    }
+}
+
+// The torques of a row, in hundredths of Nm. The right one is 0 where there is no right sensor.
+#[derive(Clone, Copy)]
+struct Torques {
+    pub input: u32,
+    pub output: u32,
+    pub right: u32,
+}
+
+// What all rows share: the ratio and the sensors. Where there is a right output, output is the left one.
 #[derive(Clone, Copy)]
 pub struct Bench {
     pub ratio: u16,
-    pub sensors: usize,
-    pub input: SensorParts,
-    pub output: SensorParts,
-    pub right: SensorParts,
+    pub input: PreparedSensor,
+    pub output: PreparedSensor,
+    pub right: Option<PreparedSensor>,
 }
 
-// A sensor with its fixed parts.
-fn sensor_parts(sensor: Sensor) -> SensorParts
-    ensures { result ≡ parts_of sensor }
+// 7: a torque must not be above its sensor's nominal torque. The torque is at a place of the data.
+fn check_nominal(nominal: u16, torque: u32, place: usize) -> Result<(), Refusal>
+    ensures { outcome_of result ≡ require (leb torque (100 * nominal)) 7 place }
 {
-    let fixed = loss::fixed_parts(sensor);
-    SensorParts { sensor, fixed }
-}
-
-// What all rows of measured data share.
-pub fn bench_of(kind: u16, ratio: u16, input: Sensor, output: Sensor, right: Sensor) -> Bench
-    ensures { result ≡ bench_with kind ratio input output right }
-{
-    let input_parts = sensor_parts(input);
-    let output_parts = sensor_parts(output);
-    let right_parts = sensor_parts(right);
-    Bench {
-        ratio,
-        sensors: kind as usize,
-        input: input_parts,
-        output: output_parts,
-        right: right_parts,
+    if torque <= 100 * u32::from(nominal) {
+        Ok(())
+    } else {
+        Err(Refusal::AboveNominal(place))
     }
-}
-
-// The torque at a place of the rows' bytes.
-fn torque_at(rows: &[u8], at: usize) -> u32
-    requires { at + 4 ≤ length rows.now }
-    ensures { result ≡ torque_at rows.now at }
-{
-    fields::four(rows[at], rows[at + 1], rows[at + 2], rows[at + 3])
-}
-
-// The right torque of the row that starts at a place, and 0 where there is no right sensor.
-fn right_torque_at(rows: &[u8], at: usize, sensors: usize) -> u32
-    requires { (2 ≤ sensors) × (at + row_length sensors ≤ length rows.now) }
-    ensures { result ≡ right_torque_at rows.now at sensors }
-{
-    if sensors == 2 {
-        return 0;
-    }
-    torque_at(rows, at + 8)
 }
 
 // Whether an output torque, in hundredths, is at most 5.00 Nm from its axis torque.
 fn near_axis(torque: u16, output: u32) -> bool
     ensures { result ≡ near_axis torque output }
 {
-    let middle = 100 * (torque as u64);
-    let measured = output as u64;
-    (measured <= middle + 500) & (middle <= measured + 500)
+    output.abs_diff(100 * u32::from(torque)) <= 500
 }
 
-// Whether the measured loss is under zero.
-fn under_zero(ratio: u16, input: u32, output: u32) -> bool
-    ensures { result ≡ loss_is_under_zero ratio input output }
-{
-    let answer = loss::measured_loss(ratio, input, output);
-    match answer {
-        MeasuredLoss::UnderZero => true,
-        MeasuredLoss::Loss(_) => false,
+impl Bench {
+    pub fn new(ratio: u16, input: Sensor, output: Sensor, right: Option<Sensor>) -> Bench
+        ensures { bench_of result ≡ bench_with ratio input output right }
+    {
+        Bench {
+            ratio,
+            input: PreparedSensor::new(input),
+            output: PreparedSensor::new(output),
+            right: right.map(PreparedSensor::new),
+        }
     }
-}
 
-// The uncertainty of a sensor at its torque, in grains.
-fn uncertainty_at(parts: SensorParts, torque: u32) -> u32
-    requires { PartsRight parts × (torque ≤ 5000000) }
-    ensures { (result ≡ (sensor_steps parts.sensor torque).uncertainty) × (result ≤ 43000000) }
-{
-    let steps = loss::sensor_steps(parts.sensor, parts.fixed, torque);
-    steps.uncertainty
-}
+    // How many bytes a row has: four for each torque.
+    fn row_length(&self) -> usize
+        ensures { result ≡ row_length (sensor_count (bench_of self.now).outputs) }
+    {
+        if self.right.is_some() { 12 } else { 8 }
+    }
 
-// The loss uncertainty of a row, in grains.
-fn uncertainty(bench: Bench, input: u32, output: u32, right: u32) -> u32
-    requires { BenchRight bench × (input ≤ 5000000) × (output ≤ 5000000) × (right ≤ 5000000) }
-    ensures { result ≡ row_uncertainty (row_of bench input output right) }
-{
-    let of_input = uncertainty_at(bench.input, input);
-    let of_output = uncertainty_at(bench.output, output) as u64;
-    let at_wheel = loss::scaled_uncertainty(bench.ratio, of_input);
-    if bench.sensors == 2 {
-        let both = [at_wheel, of_output];
-        return loss::loss_uncertainty(&both) as u32;
+    // The torques of the row that starts at an index.
+    fn torques_at(&self, rows: RowBytes, at: usize) -> Torques
+        requires { at + row_length (sensor_count (bench_of self.now).outputs) ≤ length rows.bytes.now }
+        ensures row { row_of self.now result ≡ row_at (bench_of self.now) rows.entry.bytes.now at }
+        ensures right { IfNone self.now.right (result.right ≡ 0) }
+    {
+        Torques {
+            input: rows.torque_at(at),
+            output: rows.torque_at(at + 4),
+            right: match self.right {
+                Some(_) => rows.torque_at(at + 8),
+                None => 0,
+            },
+        }
     }
-    let of_right = uncertainty_at(bench.right, right) as u64;
-    let all = [at_wheel, of_output, of_right];
-    loss::loss_uncertainty(&all) as u32
-}
 
-// The entry of a row, or its refusal.
-#[derive(Clone, Copy)]
-enum RowEntry {
-    Entry(u32),
-    Refused(Refusal),
-}
+    // 7 of each output; the first torque of them is at a place of the data.
+    fn check_outputs(&self, torques: Torques, place: usize) -> Result<(), Refusal>
+        requires { place + 4 < 2 ^ 64 }
+        ensures { outcome_of result ≡ outputs_check (row_of self.now torques).outputs place }
+    {
+        check_nominal(self.output.sensor.nominal, torques.output, place)?;
+        match &self.right {
+            Some(right) => check_nominal(right.sensor.nominal, torques.right, place + 4),
+            None => Ok(()),
+        }
+    }
 
-// A row whose first byte is at a place of the data: 7 for the input and for each output, then 8 and 9 for the outputs together, and 10.
-fn row_entry(
-    bench: Bench,
-    torque: u16,
-    input: u32,
-    output: u32,
-    right: u32,
-    place: usize,
-) -> RowEntry
-    requires { BenchRight bench × NoRightTorque bench right × (place + 8 < 2 ^ 64) }
-    ensures { row_entry_of result ≡ row_outcome torque (row_of bench input output right) place }
-{
-    let input_parts = bench.input;
-    let output_parts = bench.output;
-    let right_parts = bench.right;
-    if 100 * (input_parts.sensor.nominal as u32) < input {
-        return RowEntry::Refused(Refusal::AboveNominal(place));
+    // The loss uncertainty of a row, in grains.
+    fn uncertainty(&self, torques: Torques) -> u32
+        requires bench { BenchRight self.now }
+        requires torques { (torques.input ≤ 5000000) × (torques.output ≤ 5000000) × (torques.right ≤ 5000000) }
+        ensures { result ≡ row_uncertainty (row_of self.now torques) }
+    {
+        let input = self.input.steps(torques.input).uncertainty;
+        let at_wheel = loss::scaled_uncertainty(self.ratio, input);
+        let output = u64::from(self.output.steps(torques.output).uncertainty);
+        let uncertainty = match &self.right {
+            Some(right) => {
+                let right = u64::from(right.steps(torques.right).uncertainty);
+                loss::loss_uncertainty(&[at_wheel, output, right])
+            }
+            None => loss::loss_uncertainty(&[at_wheel, output]),
+        };
+        uncertainty as u32
     }
-    if 100 * (output_parts.sensor.nominal as u32) < output {
-        return RowEntry::Refused(Refusal::AboveNominal(place + 4));
-    }
-    if 100 * (right_parts.sensor.nominal as u32) < right {
-        return RowEntry::Refused(Refusal::AboveNominal(place + 8));
-    }
-    let together = output + right;
-    if !near_axis(torque, together) {
-        return RowEntry::Refused(Refusal::OffAxisTorque(place + 4));
-    }
-    if under_zero(bench.ratio, input, together) {
-        return RowEntry::Refused(Refusal::NegativeLoss(place));
-    }
-    let entry = loss::measured_entry(
-        bench.ratio,
-        input,
-        together,
-        uncertainty(bench, input, output, right),
-    );
-    if 10_000_000 < entry {
-        return RowEntry::Refused(Refusal::EntryTooLarge(place));
-    }
-    RowEntry::Entry(entry as u32)
-}
 
-// The row that starts at a place of the rows' bytes.
-fn row_at(rows: &[u8], at: usize, bench: Bench, torque: u16, place: usize) -> RowEntry
-    requires { BenchRight bench × (at + row_length bench.sensors ≤ length rows.now) × (place + 8 < 2 ^ 64) }
-    ensures { row_entry_of result ≡ row_outcome torque (row_at (bench_of bench) rows.now at) place }
-{
-    let input = torque_at(rows, at);
-    let output = torque_at(rows, at + 4);
-    let right = right_torque_at(rows, at, bench.sensors);
-    row_entry(bench, torque, input, output, right, place)
+    // The entry of a row whose first byte is at a place of the data, or its refusal: 7 for the input and for each output, then 8 and 9 for the outputs together, and 10.
+    fn entry(&self, axis_torque: u16, torques: Torques, place: usize) -> Result<u32, Refusal>
+        requires bench { BenchRight self.now }
+        requires right { IfNone self.now.right (torques.right ≡ 0) }
+        requires place { place + 8 < 2 ^ 64 }
+        ensures { outcome_of result ≡ row_outcome axis_torque (row_of self.now torques) place }
+    {
+        check_nominal(self.input.sensor.nominal, torques.input, place)?;
+        self.check_outputs(torques, place + 4)?;
+        let output = torques.output + torques.right;
+        if !near_axis(axis_torque, output) {
+            return Err(Refusal::OffAxisTorque(place + 4));
+        }
+        if loss::measured_loss(self.ratio, torques.input, output).is_none() {
+            return Err(Refusal::NegativeLoss(place));
+        }
+        let uncertainty = self.uncertainty(torques);
+        let entry = loss::measured_entry(self.ratio, torques.input, output, uncertainty);
+        if LARGEST_ENTRY < entry {
+            return Err(Refusal::EntryTooLarge(place));
+        }
+        Ok(entry as u32)
+    }
 }
 
 // The rows of one speed: their entries are written to the first places of what is lent.
-// rows is the part of the rows' bytes that starts with this speed, place where that stands in the data.
 fn fill_speed(
-    rows: &[u8],
-    place: usize,
-    bench: Bench,
+    rows: RowBytes,
+    bench: &Bench,
     torques: &[u16],
     entries: &mut [u32],
-) -> Answer
-    requires { BenchRight bench
-        × (row_start (bench_of bench) (length torques.now) ≤ length rows.now)
-        × (length torques.now ≤ length entries.old)
-        × (place + length rows.now < 2 ^ 64) }
-    ensures answer { answer_says result ≡ first_refusal (part_check (bench_of bench) torques.now rows.now place) 0 (length torques.now) }
-    ensures filled { Filled result entries.new (tabulate (part_entry (bench_of bench) rows.now) (length torques.now))
-        entries.old }
+) -> Result<(), Refusal>
+    requires bench { BenchRight bench.now }
+    requires rows { row_start (bench_of bench.now) (length torques.now) ≤ length rows.bytes.now }
+    requires entries { length torques.now ≤ length entries.old }
+    ensures answer { outcome_of result ≡
+        first_refusal (part_check (bench_of bench.now) torques.now rows.entry.bytes.now rows.entry.place)
+        0 (length torques.now) }
+    ensures filled { OnOk result (entries.new ≡
+        overwritten (tabulate (part_entry (bench_of bench.now) rows.entry.bytes.now) (length torques.now)) entries.old) }
 {
-    let length = 4 * bench.sensors;
-    let mut i: usize = 0;
-    while i < torques.len() {
+    let length = bench.row_length();
+    for (i, torque) in torques.iter().enumerate() {
         let at = length * i;
-        match row_at(rows, at, bench, torques[i], place + at) {
-            RowEntry::Refused(x) => {
-                return Answer::Refused(x);
-            }
-            RowEntry::Entry(entry) => {
-                entries[i] = entry;
-            }
-        }
-        i += 1;
+        let entry = bench.entry(*torque, bench.torques_at(rows, at), rows.place + at)?;
+        entries[i] = entry;
     }
-    Answer::Accepted
+    Ok(())
 }
 
-// The rows of all speeds, one speed after the other. place is where the rows stand in the data.
+// The rows of all speeds, one speed after the other.
 pub fn fill_rows(
-    rows: &[u8],
-    place: usize,
-    bench: Bench,
+    rows: RowBytes,
+    bench: &Bench,
     speeds: usize,
     torques: &[u16],
     entries: &mut [u32],
-) -> Answer
-    requires { BenchRight bench
-        × (row_start (bench_of bench) (speeds * length torques.now) ≤ length rows.now)
-        × (speeds * length torques.now ≤ length entries.old)
-        × (place + length rows.now < 2 ^ 64) }
-    ensures answer { answer_says result ≡ first_refusal (speed_part_check (bench_of bench) torques.now rows.now place) 0 speeds }
-    ensures filled { Filled result entries.new
-        (joined (speed_part_entries (bench_of bench) torques.now rows.now) speeds) entries.old }
+) -> Result<(), Refusal>
+    requires bench { BenchRight bench.now }
+    requires rows { row_start (bench_of bench.now) (speeds * length torques.now) ≤ length rows.bytes.now }
+    requires entries { speeds * length torques.now ≤ length entries.old }
+    ensures answer { outcome_of result ≡
+        first_refusal (speed_part_check (bench_of bench.now) torques.now rows.entry.bytes.now rows.entry.place)
+        0 speeds }
+    ensures filled { OnOk result (entries.new ≡
+        overwritten (joined (speed_part_entries (bench_of bench.now) torques.now rows.entry.bytes.now) speeds)
+        entries.old) }
 {
-    let length = 4 * bench.sensors;
-    let mut first: usize = 0;
-    let mut speed: usize = 0;
-    while speed < speeds {
-        let at = length * first;
-        match fill_speed(
-            &rows[at..],
-            place + at,
-            bench,
-            torques,
-            &mut entries[first..],
-        ) {
-            Answer::Refused(x) => {
-                return Answer::Refused(x);
-            }
-            Answer::Accepted => {}
-        }
-        first += torques.len();
-        speed += 1;
+    let length = bench.row_length();
+    for speed in 0..speeds {
+        let first = speed * torques.len();
+        let of_speed = rows.starting_at(length * first);
+        fill_speed(of_speed, bench, torques, &mut entries[first..])?;
     }
-    Answer::Accepted
+    Ok(())
 }

@@ -1,9 +1,12 @@
 -- `loss::standard_entry` meets its contract: the three terms over 10 times the efficiency. Assumes nothing.
-use Rattle.loss.proofs.Values.{found_standard_entry}
+use Rattle.std.proofs.Common.{◌*◌, arith}
+use Rattle.loss.proofs.Rounding.{quotient_up_is}
+use Rattle.loss.proofs.Values.{standard_numerator, standard_entry_is}
 use Rattle.loss.proofs.standard_entry.Goals as goal
 
 pub returns : goal.returns
 returns c =
-    let l = c.line_of-l.ensures in
-    found_standard_entry _ _ _ _ l.0 l.1 _ _ _ _
-    c.line_product-constant.ensures.0 c.line_product-turning.ensures.0 c.line_product-loaded.ensures.0 c.quotient_up.ensures
+    let line = c.line_of-efficiency in
+    let e = standard_entry_is c.args.line c.args.ratio c.args.torque line.result line.ensures.line line.ensures.usable.least in
+    let q = quotient_up_is (standard_numerator line.result c.args.ratio c.args.torque) (10 * line.result.efficiency) (omega arith) in
+    cc
