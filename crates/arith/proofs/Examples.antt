@@ -1,9 +1,8 @@
 -- Worked cases that compute. Assumes nothing.
 use Prim.Native.Nat.{ℕ}
 use mathlib.Core.Path.{◌≡◌, refl}
-use mathlib.Core.Bool.{Bool, true, ◌&&◌}
 use mathlib.Core.List.{List, [], ◌∷◌}
-use lib.Dec.{eqb}
+use Rattle.std.specs.Prelude.{map}
 use Rattle.arith.specs.Quotient.{quotient_up, quotient_down}
 use Rattle.arith.specs.Root.{root_up, root_down}
 
@@ -25,10 +24,6 @@ examples =
     ∷ (root_down 9, 3)
     ∷ []
 
-all_equal : List (ℕ × ℕ) → Bool
-all_equal [] = true
-all_equal (p ∷ ps) = eqb p.0 p.1 && all_equal ps
-
-examples_hold : all_equal examples ≡ true
-unfolding all_equal examples quotient_up quotient_down root_up root_down
+examples_hold : map (λ (p : ℕ × ℕ). p.0) examples ≡ map (λ (p : ℕ × ℕ). p.1) examples
+unfolding examples quotient_up quotient_down root_up root_down
 examples_hold = refl

@@ -5,7 +5,7 @@ use mathlib.Core.Bool.{Bool, true, false}
 use native.Mathlib.Omega.{arith, by_contra, pred_cases}
 use lib.Dec.{leb, ltb}
 use borrow.Author.Tests.{ltb-true, ltb-false, leb-true, leb-false}
-use Rattle.arith.specs.Root.{RootUp, RootDown, bisection, root_up, root_down, root_up_unique, root_down_unique}
+use Rattle.arith.specs.Root.{RootUp, RootDown, bisection, root_up, root_down, root_up_unique}
 use Rattle.arith.proofs.Squares.{square_at_most}
 
 -- the next number after one whose square is too small is the root, where its square is enough
@@ -70,11 +70,3 @@ root_down_law n =
           not_above = by_contra (j * j) n (λ l. omega (arith, r.least j (omega arith)));
           greatest = λ s h. by_contra s j (λ l. let m : k ≤ s = omega arith in omega (arith, r.enough, square_at_most m));
         }
-
--- a larger number has too large a square
-pub square_above_root : {n r : ℕ} → RootDown n r → (s : ℕ) → r < s → n < s * s
-square_above_root {n} p s l = by_contra _ _ (λ h. omega (arith, p.greatest s (omega arith)))
-
--- the number that obeys the law is the root
-pub is_root_down : {n r : ℕ} → RootDown n r → r ≡ root_down n
-is_root_down {n} p = root_down_unique p (root_down_law n)

@@ -112,3 +112,6 @@ ceiling_down p m (suc d) h l = let e : max (suc d) 1 ≡ suc d = omega arith in 
 -- a quotient rounded up is at most the number divided
 pub quotient_le : (n d : ℕ) → 0 < d → quotient_up n d ≤ n
 quotient_le n d h = quotient_up_least (quotient_up_law n d h) n (omega (arith, mul-le-mul_left n h))
+
+-- what the code's own ceiling follows from
+pub ruleset ceilings = (ceiling_up, ceiling_down, quotient_le)

@@ -20,6 +20,7 @@ pub struct CellNumbers {
 }
 
 // The cell whose lower speed is number i and whose lower torque is number j.
+#[tactic(auto, unfolding(crate::specs::Interpolation::cell_numbers))]
 pub fn cell_numbers(
     speeds: &[u16; 32],
     torques: &[u16; 64],
@@ -34,27 +35,28 @@ pub fn cell_numbers(
     let lower = i * torque_count + j;
     let upper = lower + torque_count;
     CellNumbers {
-        x0: 10 * number(speeds, i),
-        x1: 10 * number(speeds, i + 1),
-        y0: 100 * number(torques, j),
-        y1: 100 * number(torques, j + 1),
-        e00: entry(entries, lower),
-        e01: entry(entries, lower + 1),
-        e10: entry(entries, upper),
-        e11: entry(entries, upper + 1),
+        x0: 10 * u64::from(speeds[i]),
+        x1: 10 * u64::from(speeds[i + 1]),
+        y0: 100 * u64::from(torques[j]),
+        y1: 100 * u64::from(torques[j + 1]),
+        e00: u64::from(entries[lower]),
+        e01: u64::from(entries[lower + 1]),
+        e10: u64::from(entries[upper]),
+        e11: u64::from(entries[upper + 1]),
     }
 }
 
 // The loss in a cell, rounded up at the end alone. What counts for the loss and, below the first torque, what counts against it are kept apart.
+#[tactic(auto, unfolding(crate::specs::Interpolation::interpolation))]
 pub fn interpolate(cell: CellNumbers, speed: u64, torque: u64) -> i64
     requires { CellBounds cell (record { speed = speed; torque = torque }) }
     ensures { result ≡ ceiling (interpolation cell (record { speed = speed; torque = torque })) }
 {
-    let a0 = arith::part_above(cell.x1, speed);
-    let a1 = arith::part_above(speed, cell.x0);
-    let b0 = arith::part_above(cell.y1, torque);
-    let b1 = arith::part_above(torque, cell.y0);
-    let c1 = arith::part_above(cell.y0, torque);
+    let a0 = cell.x1.saturating_sub(speed);
+    let a1 = speed.saturating_sub(cell.x0);
+    let b0 = cell.y1.saturating_sub(torque);
+    let b1 = torque.saturating_sub(cell.y0);
+    let c1 = cell.y0.saturating_sub(torque);
     let plus = weighted(a0, b0, cell.e00)
         + weighted(a0, b1, cell.e01)
         + weighted(a1, b0, cell.e10)
@@ -65,21 +67,27 @@ pub fn interpolate(cell: CellNumbers, speed: u64, torque: u64) -> i64
 
 // An entry times a share in speed and a share in torque.
 fn weighted(speed: u64, torque: u64, entry: u64) -> u64
-    requires { (speed ≤ 30000) × (torque ≤ 5000000) × (entry ≤ 10000000) }
-    ensures { (result ≡ speed * torque * entry) × (result ≤ 1500000000000000000) }
+    requires speed { speed ≤ 30000 }
+    requires torque { torque ≤ 5000000 }
+    requires entry { entry ≤ 10000000 }
+    ensures value { result ≡ speed * torque * entry }
+    ensures bound { result ≤ 1500000000000000000 }
 {
     speed * torque * entry
 }
 
-// (plus - minus) / den rounded up, "also under zero".
-fn ceiling(plus: u64, minus: u64, den: u64) -> i64
-    requires { (0 < den) × (plus < 2 ^ 63) × (minus < 2 ^ 63) }
-    ensures { result ≡ ceiling (plus less minus over den) }
+// (plus - minus) / denominator rounded up, "also under zero".
+#[tactic(auto, using(crate::proofs::Rounding::ceilings))]
+fn ceiling(plus: u64, minus: u64, denominator: u64) -> i64
+    requires denominator { 0 < denominator }
+    requires plus { plus < 2 ^ 63 }
+    requires minus { minus < 2 ^ 63 }
+    ensures { result ≡ ceiling (plus less minus over denominator) }
 {
     if minus <= plus {
-        arith::quotient_up(plus - minus, den) as i64
+        arith::quotient_up(plus - minus, denominator) as i64
     } else {
-        0 - ((minus - plus) / den) as i64
+        -(((minus - plus) / denominator) as i64)
     }
 }
 
@@ -88,13 +96,5 @@ pub fn number(numbers: &[u16], i: usize) -> u64
     requires { i < length numbers.now }
     ensures { (result ≡ get_or numbers.now i 0) × (result < 2 ^ 16) }
 {
-    numbers[i] as u64
-}
-
-// An entry.
-fn entry(entries: &[u32], i: usize) -> u64
-    requires { i < length entries.now }
-    ensures { result ≡ get_or entries.now i 0 }
-{
-    entries[i] as u64
+    u64::from(numbers[i])
 }

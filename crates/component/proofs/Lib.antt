@@ -1,3 +1,2 @@
-pub mod Measurements
 pub mod Readings
 pub mod Examples

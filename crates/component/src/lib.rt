@@ -1,46 +1,59 @@
 // Reads component data: a run of fields, each a tag, a length in two bytes and a body.
 #![tactic(auto)]
 
-ghost use Rattle.std.specs.Prelude.{◌≡◌, ◌*◌, ◌≤◌, length};
-ghost use Rattle.component.specs.Component.{output_tags, rows_tag, row_length, axle_fields, axes_fields, sensor_fields, measured_fields, kind_fields};
-ghost use Rattle.component.specs.Answers.{axle_read_of, axes_read_of, CountsWithin, outputs_read_of, NoRightOutput, measured_read_of, NoRightMeasured, kind_read_of, RowsWithin, AbsentThere, no_sensor, no_part, component_from, NoNumbers, Reads};
+ghost use Rattle.std.specs.Prelude.{◌≡◌, ◌+◌, ◌*◌, ◌≤◌, length, IfOk, IfSome};
+ghost use Rattle.refusal.specs.Table.{outcome_as};
+ghost use Rattle.component.specs.Component.{output_tags, rows_tag, row_length, kind_number, axle_fields, axes_fields, sensor_fields, measured_fields, kind_fields};
+ghost use Rattle.component.specs.Answers.{axle_run_of, axes_run_of, CountsWithin, outputs_run_of, measured_run_of, kind_in, kind_run_of, RowsWithin, Reads};
 
-use fields::{Allowed, AxisRead, Cursor, FieldRead, NumberRead, SensorFieldRead};
-use grid::{Grid, Range, SpeedAxis, TorqueAxis};
-use refusal::{Answer, Refusal};
+use fields::{Allowed, Cursor, Width};
+use grid::{Grid, Range};
+use refusal::Refusal;
 use sensor::Sensor;
 
-// A part of the data, from start up to end.
+// The rows of tag 8 or 10: the place of the first byte in the data, and their bytes.
 #[derive(Clone, Copy)]
-pub struct DataPart {
+pub struct Rows<'a> {
     pub start: usize,
-    pub end: usize,
+    pub bytes: &'a [u8],
 }
 
-// The numbers that component data says. The kind says which fields there are: of kind 1 the sensors and the rows mean nothing, of kind 2 the right sensor.
+// What only measured data has.
 #[derive(Clone, Copy)]
-pub struct Component {
-    // 1 standard, 2 measured, 3 measured with an output sensor on each half shaft
-    pub kind: u16,
+pub struct Measured<'a> {
+    pub input: Sensor,
+    // the output sensor; of one on each half shaft the left one
+    pub output: Sensor,
+    // the right one, where there is one on each half shaft
+    pub right: Option<Sensor>,
+    pub rows: Rows<'a>,
+}
+
+// The numbers that component data says.
+#[derive(Clone, Copy)]
+pub struct Component<'a> {
     // the axle line, 1 to 5: SR, SRT, SP, HR, HRT
     pub line: u16,
     // thousandths
     pub ratio: u16,
     pub grid: Grid,
-    // the sensors of kinds 2 and 3; of kind 3 output is the left one
-    pub input: Sensor,
-    pub output: Sensor,
-    // the right output sensor of kind 3
-    pub right: Sensor,
-    // the part of the data that the rows of kinds 2 and 3 occupy
-    pub rows: DataPart,
+    // standard data has none
+    pub measured: Option<Measured<'a>>,
 }
 
-// Where the answer is a refusal, the component means nothing.
-#[derive(Clone, Copy)]
-pub struct Reading {
-    pub answer: Answer,
-    pub component: Component,
+impl Component<'_> {
+    // The number of the kind: 1 standard, 2 measured, 3 measured with an output sensor on each half shaft.
+    pub fn kind(&self) -> u16
+        ensures { result ≡ kind_number (kind_in self.now.measured) }
+    {
+        match self.measured {
+            None => 1,
+            Some(measured) => match measured.right {
+                None => 2,
+                Some(_) => 3,
+            },
+        }
+    }
 }
 
 // The ranges of tags 1 to 3.
@@ -59,167 +72,92 @@ pub const RATIOS: Range = Range {
     highest: 20_000,
 };
 
-// Tags 1 to 3, and the cursor past them.
+// What a run of fields says, and the cursor past it.
+#[derive(Clone, Copy)]
+struct Run<T> {
+    pub value: T,
+    pub next: Cursor,
+}
+
 #[derive(Clone, Copy)]
 struct Axle {
     pub kind: u16,
     pub line: u16,
     pub ratio: u16,
-    pub next: Cursor,
 }
 
-#[derive(Clone, Copy)]
-enum AxleRead {
-    Read(Axle),
-    Refused(Refusal),
-}
-
-fn read_axle(data: &[u8], start: Cursor) -> AxleRead
-    ensures { axle_read_of result ≡ axle_fields «data».now start.at }
+// Tags 1 to 3.
+#[tactic(auto, unfolding(crate::specs::Component::axle_fields))]
+fn read_axle(data: &[u8], start: Cursor) -> Result<Run<Axle>, Refusal>
+    ensures { outcome_as axle_run_of result ≡ axle_fields «data».now start.at }
 {
-    let kind = match start.byte_number(data, 1, KINDS) {
-        NumberRead::Refused(x) => return AxleRead::Refused(x),
-        NumberRead::Read(field) => field,
-    };
-    let line = match kind.next.byte_number(data, 2, LINES) {
-        NumberRead::Refused(x) => return AxleRead::Refused(x),
-        NumberRead::Read(field) => field,
-    };
-    let ratio = match line.next.pair_number(data, 3, RATIOS) {
-        NumberRead::Refused(x) => return AxleRead::Refused(x),
-        NumberRead::Read(field) => field,
-    };
-    let next = ratio.next;
-    AxleRead::Read(Axle {
-        kind: kind.value,
-        line: line.value,
-        ratio: ratio.value,
-        next,
+    let kind = start.number(data, 1, Width::One, KINDS)?;
+    let line = kind.next.number(data, 2, Width::One, LINES)?;
+    let ratio = line.next.number(data, 3, Width::Two, RATIOS)?;
+    Ok(Run {
+        value: Axle {
+            kind: kind.value,
+            line: line.value,
+            ratio: ratio.value,
+        },
+        next: ratio.next,
     })
 }
 
-// Tags 4 and 5: the cursor past them, or the refusal.
-#[derive(Clone, Copy)]
-enum AxesAnswer {
-    Read(Cursor),
-    Refused(Refusal),
-}
-
-#[derive(Clone, Copy)]
-struct AxesRead {
-    pub answer: AxesAnswer,
-    pub grid: Grid,
-}
-
-fn refused_axes(x: Refusal) -> AxesRead
-    ensures { (result.answer ≡ AxesAnswer.Refused x) × (result.grid.speeds.count ≡ 0) × (result.grid.torques.count ≡ 0) }
+// Tags 4 and 5.
+#[tactic(auto, using(fields::proofs::Bodies::first_step_lem), unfolding(crate::specs::Component::axes_fields))]
+fn read_axes(data: &[u8], start: Cursor) -> Result<Run<Grid>, Refusal>
+    ensures answer { outcome_as axes_run_of result ≡ axes_fields «data».now start.at }
+    ensures counts { IfOk result (λ axes. CountsWithin axes.value) }
 {
-    let grid = grid::empty_grid();
-    AxesRead {
-        answer: AxesAnswer::Refused(x),
-        grid,
+    let speeds = start.axis(data, 4, grid::SPEED_RANGE)?;
+    let torques = speeds.next.axis(data, 5, grid::TORQUE_RANGE)?;
+    let grid = Grid {
+        speeds: speeds.value,
+        torques: torques.value,
+    };
+    if !grid::first_step_holds(grid.torques.numbers[0], grid.torques.numbers[1]) {
+        return Err(Refusal::FirstTorqueAboveStep(torques.start));
     }
+    Ok(Run {
+        value: grid,
+        next: torques.next,
+    })
 }
 
-fn read_axes(data: &[u8], start: Cursor) -> AxesRead
-    ensures { (axes_read_of result ≡ axes_fields «data».now start.at) × CountsWithin result.grid }
-{
-    let mut speeds = [0u16; 32];
-    let speed = match start.axis(data, 4, grid::SPEED_RANGE, &mut speeds) {
-        AxisRead::Refused(x) => return refused_axes(x),
-        AxisRead::Read(field) => field,
-    };
-    let mut torques = [0u16; 64];
-    let torque = match speed.next.axis(data, 5, grid::TORQUE_RANGE, &mut torques) {
-        AxisRead::Refused(x) => return refused_axes(x),
-        AxisRead::Read(field) => field,
-    };
-    if !grid::first_step_holds(torques[0], torques[1]) {
-        return refused_axes(Refusal::FirstTorqueAboveStep(torque.start));
-    }
-    let next = torque.next;
-    let speed_axis = SpeedAxis {
-        numbers: speeds,
-        count: speed.count,
-    };
-    let torque_axis = TorqueAxis {
-        numbers: torques,
-        count: torque.count,
-    };
-    AxesRead {
-        answer: AxesAnswer::Read(next),
-        grid: Grid {
-            speeds: speed_axis,
-            torques: torque_axis,
-        },
-    }
-}
-
-// What stands in place of a sensor where there is none.
-fn no_sensor() -> Sensor
-    ensures { result ≡ no_sensor }
-{
-    Sensor {
-        nominal: 0,
-        sensitivity: 0,
-        zero: 0,
-        calibration: 0,
-        advancement: 0,
-        parasitic: 0,
-        share: 0,
-        difference: 0,
-        span: 0,
-    }
-}
-
-// The output sensors, and the cursor past them.
 #[derive(Clone, Copy)]
 struct Outputs {
     pub output: Sensor,
-    pub right: Sensor,
-    pub next: Cursor,
+    pub right: Option<Sensor>,
 }
 
-#[derive(Clone, Copy)]
-enum OutputsRead {
-    Read(Outputs),
-    Refused(Refusal),
-}
-
-// Tag 7, and where the kind has one on each half shaft tag 9.
-fn read_outputs(data: &[u8], start: Cursor, kind: u16) -> OutputsRead
-    ensures { (outputs_read_of kind result ≡ sensor_fields «data».now start.at (output_tags kind))
-        × NoRightOutput kind result }
+// Tag 7, and where the kind has a sensor on each half shaft tag 9.
+#[tactic(auto, unfolding(crate::specs::Component::output_tags, crate::specs::Component::sensor_fields))]
+fn read_outputs(data: &[u8], start: Cursor, kind: u16) -> Result<Run<Outputs>, Refusal>
+    ensures { outcome_as outputs_run_of result ≡ sensor_fields «data».now start.at (output_tags kind) }
 {
-    let output = match start.sensor(data, 7) {
-        SensorFieldRead::Refused(x) => return OutputsRead::Refused(x),
-        SensorFieldRead::Read(field) => field,
-    };
-    let output_sensor = output.sensor;
-    let after_output = output.next;
+    let output = start.sensor(data, 7)?;
     if kind == 2 {
-        let right_sensor = no_sensor();
-        return OutputsRead::Read(Outputs {
-            output: output_sensor,
-            right: right_sensor,
-            next: after_output,
+        return Ok(Run {
+            value: Outputs {
+                output: output.value,
+                right: None,
+            },
+            next: output.next,
         });
     }
-    match after_output.sensor(data, 9) {
-        SensorFieldRead::Refused(x) => OutputsRead::Refused(x),
-        SensorFieldRead::Read(field) => {
-            let right_sensor = field.sensor;
-            let after_right = field.next;
-            OutputsRead::Read(Outputs {
-                output: output_sensor,
-                right: right_sensor,
-                next: after_right,
-            })
-        }
-    }
+    let right = output.next.sensor(data, 9)?;
+    Ok(Run {
+        value: Outputs {
+            output: output.value,
+            right: Some(right.value),
+        },
+        next: right.next,
+    })
 }
 
 // The tag of the rows.
+#[tactic(auto, unfolding(crate::specs::Component::rows_tag))]
 pub fn rows_tag(kind: u16) -> u8
     ensures { result ≡ rows_tag kind }
 {
@@ -234,163 +172,78 @@ fn rows_length(kind: u16, points: usize) -> usize
     4 * (kind as usize) * points
 }
 
-// From tag 6 on, and the cursor past the rows.
-#[derive(Clone, Copy)]
-struct Measured {
-    pub input: Sensor,
-    pub output: Sensor,
-    pub right: Sensor,
-    pub rows: DataPart,
-    pub next: Cursor,
-}
-
-#[derive(Clone, Copy)]
-enum MeasuredRead {
-    Read(Measured),
-    Refused(Refusal),
-}
-
-fn read_measured(data: &[u8], start: Cursor, kind: u16, points: usize) -> MeasuredRead
+// From tag 6 on, for so many points.
+#[tactic(auto, unfolding(crate::specs::Component::measured_fields))]
+fn read_measured(
+    data: &[u8],
+    start: Cursor,
+    kind: u16,
+    points: usize,
+) -> Result<Run<Measured<'_>>, Refusal>
     requires { points ≤ 2048 }
-    ensures answer { measured_read_of «data».now kind result ≡ measured_fields «data».now start.at kind points }
-    ensures rows_within { RowsWithin (length «data».now) result }
-    ensures no_right { NoRightMeasured kind result }
+    ensures answer { outcome_as measured_run_of result ≡ measured_fields «data».now start.at kind points }
+    ensures rows_within { IfOk result (λ run. RowsWithin (length «data».now) run.value.rows) }
 {
-    let input = match start.sensor(data, 6) {
-        SensorFieldRead::Refused(x) => return MeasuredRead::Refused(x),
-        SensorFieldRead::Read(field) => field,
-    };
-    let outputs = match read_outputs(data, input.next, kind) {
-        OutputsRead::Refused(x) => return MeasuredRead::Refused(x),
-        OutputsRead::Read(outputs) => outputs,
-    };
-    let length = rows_length(kind, points);
-    match outputs
-        .next
-        .field(data, rows_tag(kind), Allowed::Exactly(length))
-    {
-        FieldRead::Refused(x) => MeasuredRead::Refused(x),
-        FieldRead::Field {
-            kind: _,
-            start,
-            next,
-        } => {
-            let input_sensor = input.sensor;
-            let output_sensor = outputs.output;
-            let right_sensor = outputs.right;
-            MeasuredRead::Read(Measured {
-                input: input_sensor,
-                output: output_sensor,
-                right: right_sensor,
-                rows: DataPart {
-                    start,
-                    end: next.at,
-                },
-                next,
-            })
-        }
-    }
-}
-
-// What stands in place of sensors and rows where there are none.
-fn not_measured(next: Cursor) -> Measured
-    ensures { (result.input ≡ no_sensor) × (result.output ≡ no_sensor) × (result.right ≡ no_sensor) × (result.rows ≡ no_part) × (result.next ≡ next) }
-{
-    let input = no_sensor();
-    let output = no_sensor();
-    let right = no_sensor();
-    Measured {
-        input,
-        output,
-        right,
-        rows: DataPart { start: 0, end: 0 },
-        next,
-    }
+    let input = start.sensor(data, 6)?;
+    let outputs = read_outputs(data, input.next, kind)?;
+    let allowed = Allowed::Exactly(rows_length(kind, points));
+    let rows = outputs.next.field(data, rows_tag(kind), allowed)?;
+    Ok(Run {
+        value: Measured {
+            input: input.value,
+            output: outputs.value.output,
+            right: outputs.value.right,
+            rows: Rows {
+                start: rows.start,
+                bytes: rows.body,
+            },
+        },
+        next: rows.next,
+    })
 }
 
 // What follows the axes.
-fn read_kind(data: &[u8], start: Cursor, kind: u16, points: usize) -> MeasuredRead
+#[tactic(auto, unfolding(crate::specs::Component::kind_fields))]
+fn read_kind(
+    data: &[u8],
+    start: Cursor,
+    kind: u16,
+    points: usize,
+) -> Result<Run<Option<Measured<'_>>>, Refusal>
     requires { points ≤ 2048 }
-    ensures { (kind_read_of «data».now kind result ≡ kind_fields «data».now start.at kind points)
-        × RowsWithin (length «data».now) result
-        × AbsentThere kind result }
+    ensures answer { outcome_as kind_run_of result ≡ kind_fields «data».now start.at kind points }
+    ensures rows_within { IfOk result (λ run. IfSome run.value (λ m. RowsWithin (length «data».now) m.rows)) }
 {
     if kind == 1 {
-        return MeasuredRead::Read(not_measured(start));
+        return Ok(Run {
+            value: None,
+            next: start,
+        });
     }
-    read_measured(data, start, kind, points)
-}
-
-fn refused(x: Refusal) -> Reading
-    ensures { (result.answer ≡ Answer.Refused x) × NoNumbers result.component }
-{
-    let grid = grid::empty_grid();
-    let input = no_sensor();
-    let output = no_sensor();
-    let right = no_sensor();
-    let component = Component {
-        kind: 0,
-        line: 0,
-        ratio: 0,
-        grid,
-        input,
-        output,
-        right,
-        rows: DataPart { start: 0, end: 0 },
-    };
-    Reading {
-        answer: Answer::Refused(x),
-        component,
-    }
-}
-
-fn accepted(axle: Axle, grid: Grid, measured: Measured) -> Reading
-    ensures { result ≡ record { answer = Answer.Accepted; component = component_from axle grid measured } }
-{
-    let input = measured.input;
-    let output = measured.output;
-    let right = measured.right;
-    let rows = measured.rows;
-    let component = Component {
-        kind: axle.kind,
-        line: axle.line,
-        ratio: axle.ratio,
-        grid,
-        input,
-        output,
-        right,
-        rows,
-    };
-    Reading {
-        answer: Answer::Accepted,
-        component,
-    }
+    let measured = read_measured(data, start, kind, points)?;
+    Ok(Run {
+        value: Some(measured.value),
+        next: measured.next,
+    })
 }
 
 // Reads the fields in their order; then nothing may follow.
-pub fn read(data: &[u8]) -> Reading
+#[tactic(auto, unfolding(crate::specs::Component::component))]
+pub fn read(data: &[u8]) -> Result<Component<'_>, Refusal>
     ensures { Reads «data».now result }
 {
-    let start = Cursor { at: 0 };
-    let axle = match read_axle(data, start) {
-        AxleRead::Refused(x) => return refused(x),
-        AxleRead::Read(axle) => axle,
-    };
-    let axes = read_axes(data, axle.next);
-    let answer = axes.answer;
-    let next = match answer {
-        AxesAnswer::Refused(x) => return refused(x),
-        AxesAnswer::Read(next) => next,
-    };
-    let grid = axes.grid;
-    let points = grid.speeds.count * grid.torques.count;
-    let measured = match read_kind(data, next, axle.kind, points) {
-        MeasuredRead::Refused(x) => return refused(x),
-        MeasuredRead::Read(measured) => measured,
-    };
+    let axle = read_axle(data, Cursor { at: 0 })?;
+    let axes = read_axes(data, axle.next)?;
+    let points = axes.value.speeds.count * axes.value.torques.count;
+    let measured = read_kind(data, axes.next, axle.value.kind, points)?;
     let end = measured.next.at;
     if end < data.len() {
-        return refused(Refusal::TrailingBytes(end));
+        return Err(Refusal::TrailingBytes(end));
     }
-    accepted(axle, grid, measured)
+    Ok(Component {
+        line: axle.value.line,
+        ratio: axle.value.ratio,
+        grid: axes.value,
+        measured: measured.value,
+    })
 }

@@ -106,6 +106,15 @@ module _ (s : List ℕ) (start end : ℕ) where
       let b = numbers_bounds fewest most (end - start) i.fits in
       rw (between_length s start end i.forward i.ends) (omega (arith, b.0, b.2), b.1, omega (arith, i.forward, i.ends))
 
+-- the body that is handed on from a head that was read
+module _ (s : List ℕ) (at tag : ℕ) (f : Head) (body : List ℕ) (part : body ≡ between s f.start f.end) where
+  pub exact_body : (n : ℕ) → accepted f ≡ head s at tag (exactly n) → (length body ≡ n) × (f.start + n ≤ length s)
+  exact_body n e = rw part (exactly_length s f.start f.end n (inside s at tag (exactly n) f e))
+
+  pub numbers_body : (fewest most : ℕ) → accepted f ≡ head s at tag (numbers fewest most)
+      → (length body ≤ most * 2) × (fewest ≤ length body / 2) × (f.start + length body ≤ length s)
+  numbers_body fewest most e = rw part (numbers_length s f.start f.end fewest most (inside s at tag (numbers fewest most) f e))
+
 -- the cases of a field
 module _ {A : Type 0} (s : List ℕ) (at tag : ℕ) (allowed : ℕ → Bool) (body : List ℕ → ℕ → Outcome A) where
   pub head_refused : (t : Told) → refused t ≡ head s at tag allowed → refused t ≡ field s at tag allowed body

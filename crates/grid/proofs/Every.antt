@@ -54,6 +54,14 @@ every_fails test i zero l e = absurd (omega arith)
 every_fails test i (suc n) l e = fails_step test i n l e (λ q. every_fails test i n q e) (dec_lt i n)
 
 -- ---- a flag that a loop carries along
+-- tests that agree below n
+pub every_same : (f g : ℕ → Bool) (n : ℕ) → ((i : ℕ) → i < n → f i ≡ g i) → every f n ≡ every g n
+unfolding every
+every_same f g zero same = refl
+every_same f g (suc n) same =
+    let here : f n ≡ g n = same n (omega arith) in
+    rw (every_same f g n (λ i h. same i (omega arith)), here)
+
 pub flag_none : (test : ℕ → Bool) → true ≡ every test 0
 unfolding every
 flag_none test = refl

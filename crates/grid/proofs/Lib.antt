@@ -1,6 +1,6 @@
 pub mod Every
 pub mod Numbers
-pub mod Axis
+pub mod AxisLaws
 pub mod Map
 pub mod Points
 pub mod Lists

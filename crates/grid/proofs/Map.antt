@@ -13,7 +13,7 @@ use Rattle.grid.specs.Rules.{AxisRules, FirstStep, GridRules, MapRules}
 use Rattle.grid.specs.Map.{valid_speeds, valid_torques, valid_grid, valid_entries, valid_map}
 use Rattle.grid.specs.declared.Grid.{Grid}
 use Rattle.grid.proofs.Every.{and_fst, and_snd, every_at, every_of}
-use Rattle.grid.proofs.Axis.{axis_facts, axis_of}
+use Rattle.grid.proofs.AxisLaws.{axis_facts, axis_of}
 
 pub speed_facts : (ns : List ℕ) (count : ℕ) → valid_speeds ns count ≡ true → AxisRules (1 to 3000) 32 ns count
 unfolding valid_speeds

@@ -1,5 +1,8 @@
 -- Laws of the numbers of an axis: when they are accepted, and which refusal they give. Assumes nothing.
 use Prim.Native.Nat.{ℕ, ◌<◌, zero-le}
+use Rattle.std.proofs.Common.{◌-◌, leb, length, take}
+use borrow.Author.Tests.{le-leb, lt-leb}
+use Rattle.std.proofs.lemmas.List.{get_or-take}
 use mathlib.Core.Path.{◌≡◌, refl, sym, ap}
 use mathlib.Core.Bool.{Bool, true, false, ◌&&◌}
 use mathlib.Core.List.{List}
@@ -8,9 +11,10 @@ use native.Mathlib.Omega.{arith}
 use lib.ListN.{get_or}
 use Rattle.refusal.specs.Outcome.{Told, refusal, accepted, refused, refuse, require, ◌>>=◌}
 use Rattle.grid.specs.Every.{every}
-use Rattle.grid.specs.Axis.{within, rises, axis_number, axis_numbers}
+use Rattle.grid.specs.Axis.{within, rises, axis_number, axis_numbers, valid_numbers}
 use Rattle.grid.specs.declared.Range.{Range}
-use Rattle.grid.proofs.Every.{and_fst, and_snd, every_at, every_of}
+use Rattle.grid.specs.Counted.{CountedNumbers}
+use Rattle.grid.proofs.Every.{and_false, and_fst, and_snd, every_at, every_of, every_same}
 use Rattle.refusal.proofs.Steps.{same_refusal}
 use Rattle.refusal.proofs.First.{first_all, first_of, first_found}
 
@@ -26,6 +30,25 @@ and_true false = refl
 pub right_first : (range : Range) (ns : List ℕ) → within range (get_or ns 0 0) ≡ right_at range ns 0
 unfolding rises
 right_first range ns = and_true (within range (get_or ns 0 0))
+
+-- the numbers of an axis are the first of its places
+right_of_first : (range : Range) (ns : List ℕ) (count i : ℕ) → i < count → right_at range (take count ns) i ≡ right_at range ns i
+unfolding rises
+right_of_first range ns count i h =
+    let here = get_or-take count ns i 0 h in
+    let before : get_or (take count ns) (i - 1) 0 ≡ get_or ns (i - 1) 0 = get_or-take count ns (i - 1) 0 (omega arith) in
+    rw (here, before)
+
+pub counted_right : {places count : ℕ} {ns part : List ℕ} (range : Range) → CountedNumbers places ns count part
+    → every (right_at range part) (length part) ≡ valid_numbers places range ns count
+unfolding valid_numbers
+counted_right {places} {count} {ns} {part} range c =
+    rw (le-leb 2 count c.at_least, le-leb count places c.at_most, c.long, c.numbers) (every_same _ _ count (right_of_first range ns count))
+
+pub not_counted : (places : ℕ) (range : Range) (ns : List ℕ) (count : ℕ) → (count < 2) ⊎ (places < count) → false ≡ valid_numbers places range ns count
+unfolding valid_numbers
+not_counted places range ns count (inl few) = rw (lt-leb 2 count few)
+not_counted places range ns count (inr many) = rw (lt-leb count places many) (sym (and_false (leb 2 count)))
 
 -- ---- one number
 pub number_right : (range : Range) (ns : List ℕ) (i : ℕ) → within range (get_or ns i 0) ≡ true → rises ns i ≡ true → axis_number range ns i ≡ accepted tt

@@ -5,3 +5,4 @@ pub mod Rules
 pub mod Fault
 pub mod Map
 pub mod Parts
+pub mod Counted

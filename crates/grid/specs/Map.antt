@@ -2,16 +2,18 @@
 use Rattle.std.specs.Prelude.{ℕ, ◌*◌, Bool, ◌&&◌, List, leb, length, get_or, take}
 use Rattle.grid.specs.Every.{every}
 use Rattle.grid.specs.Axis.{◌to◌, first_step, valid_numbers}
-use Rattle.grid.specs.declared.SpeedAxis.{SpeedAxis}
-use Rattle.grid.specs.declared.TorqueAxis.{TorqueAxis}
+use Rattle.grid.specs.declared.Axis.{Axis}
 use Rattle.grid.specs.declared.Grid.{Grid}
 
 -- the numbers of an axis
-abbrev pub speeds_of : SpeedAxis → List ℕ
-speeds_of axis = take axis.count axis.numbers
+abbrev pub counted_numbers : {places : ℕ} → Axis places → List ℕ
+counted_numbers axis = take axis.count axis.numbers
 
-abbrev pub torques_of : TorqueAxis → List ℕ
-torques_of axis = take axis.count axis.numbers
+abbrev pub speeds_of : Axis 32 → List ℕ
+speeds_of axis = counted_numbers axis
+
+abbrev pub torques_of : Axis 64 → List ℕ
+torques_of axis = counted_numbers axis
 
 -- tag 4: 2 to 32 speeds, 1 to 3,000 rpm each, rising
 unfoldable pub valid_speeds : List ℕ → ℕ → Bool

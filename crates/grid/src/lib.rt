@@ -3,16 +3,26 @@
 
 ghost use Rattle.std.specs.Prelude.{◌≡◌, ◌&&◌, ◌-◌, ◌<◌, ◌≤◌, leb, length, get_or};
 ghost use Rattle.grid.specs.Every.{every};
-ghost use Rattle.grid.specs.Axis.{within, rises, axis_numbers};
+ghost use Rattle.grid.specs.Axis.{within, rises, axis_numbers, valid_numbers};
+ghost use Rattle.grid.specs.Counted.{Counted};
 ghost use Rattle.grid.specs.Fault.{fault_of};
 ghost use Rattle.grid.specs.Map.{valid_speeds, valid_torques, valid_grid};
-ghost use Rattle.grid.specs.Parts.{grid_of};
 
 // The numbers that a place of the data may hold, both ends among them.
 #[derive(Clone, Copy)]
 pub struct Range {
     pub lowest: u16,
     pub highest: u16,
+}
+
+impl Range {
+    // Whether a number is in the range, both ends in it.
+    #[tactic(auto, unfolding(crate::specs::Axis::within))]
+    pub fn contains(self, number: u16) -> bool
+        ensures { result ≡ within self number }
+    {
+        (self.lowest <= number) & (number <= self.highest)
+    }
 }
 
 // The range of a speed, in rpm.
@@ -29,16 +39,14 @@ pub const TORQUE_RANGE: Range = Range {
 
 // An axis: its numbers, and how many there are. What stands past the count means nothing.
 #[derive(Clone, Copy)]
-pub struct SpeedAxis {
-    pub numbers: [u16; 32],
+pub struct Axis<const N: usize> {
+    pub numbers: [u16; N],
     pub count: usize,
 }
 
-#[derive(Clone, Copy)]
-pub struct TorqueAxis {
-    pub numbers: [u16; 64],
-    pub count: usize,
-}
+pub type SpeedAxis = Axis<32>;
+
+pub type TorqueAxis = Axis<64>;
 
 // The axes of a map: speeds in rpm and torques in Nm, both at the wheel.
 #[derive(Clone, Copy)]
@@ -47,75 +55,64 @@ pub struct Grid {
     pub torques: TorqueAxis,
 }
 
-// Axes with no numbers, as they stand in a refused answer.
+// An axis with no numbers.
+fn empty_axis<const N: usize>() -> Axis<N>
+    ensures { result.count ≡ 0 }
+{
+    Axis {
+        numbers: [0; N],
+        count: 0,
+    }
+}
+
+// Axes with no numbers.
 pub fn empty_grid() -> Grid
     ensures { (result.speeds.count ≡ 0) × (result.torques.count ≡ 0) }
 {
-    let speeds = SpeedAxis {
-        numbers: [0u16; 32],
-        count: 0,
-    };
-    let torques = TorqueAxis {
-        numbers: [0u16; 64],
-        count: 0,
-    };
-    Grid { speeds, torques }
+    Grid {
+        speeds: empty_axis(),
+        torques: empty_axis(),
+    }
 }
 
 // The first number of an axis that is wrong, by its index.
 #[derive(Clone, Copy)]
 pub enum AxisFault {
-    Nothing,
     // 4: it is not in its range.
     OutOfRange(usize),
     // 5: it does not rise.
     NotRising(usize),
 }
 
-// Whether a number is in its range, both ends in it.
-pub fn within(range: Range, number: u16) -> bool
-    ensures { result ≡ within range number }
-{
-    (range.lowest <= number) & (number <= range.highest)
-}
-
 // Whether number i is above the one before; the first has none before it.
+#[tactic(auto, unfolding(crate::specs::Axis::rises))]
 fn above_previous(numbers: &[u16], i: usize) -> bool
     requires { i < length numbers.now }
     ensures { result ≡ rises numbers.now i }
 {
-    if i == 0 {
-        return true;
-    }
-    numbers[i - 1] < numbers[i]
+    i == 0 || numbers[i - 1] < numbers[i]
 }
 
-// The first number that is wrong; of one number, the range is tested before the order.
-pub fn axis_fault(numbers: &[u16], range: Range) -> AxisFault
+// Looks for a wrong number, left to right; of one number, the range is tested before the order.
+pub fn check_axis(numbers: &[u16], range: Range) -> Result<(), AxisFault>
     ensures { fault_of result ≡ axis_numbers range numbers.now (length numbers.now) }
 {
-    let mut i: usize = 0;
-    while i < numbers.len() {
-        let number = numbers[i];
-        if !within(range, number) {
-            return AxisFault::OutOfRange(i);
+    for (i, number) in numbers.iter().enumerate() {
+        if !range.contains(*number) {
+            return Err(AxisFault::OutOfRange(i));
         }
         if !above_previous(numbers, i) {
-            return AxisFault::NotRising(i);
+            return Err(AxisFault::NotRising(i));
         }
-        i += 1;
     }
-    AxisFault::Nothing
+    Ok(())
 }
 
 // Whether the first torque is not above the step from it to the second.
 pub fn first_step_holds(first: u16, second: u16) -> bool
     ensures { result ≡ leb first (second - first) }
 {
-    if second < first {
-        return false;
-    }
-    first <= second - first
+    first <= second.saturating_sub(first)
 }
 
 // Whether number i, which has one before it, is in its range and above that one.
@@ -124,96 +121,59 @@ fn later_valid(numbers: &[u16], range: Range, i: usize) -> bool
     requires { (0 < i) × (i < length numbers.now) }
     ensures { result ≡ (within range (get_or numbers.now i 0) && rises numbers.now i) }
 {
-    let number = numbers[i];
-    let previous = numbers[i - 1];
-    within(range, number) & (previous < number)
+    range.contains(numbers[i]) & (numbers[i - 1] < numbers[i])
 }
 
-// Whether each of the first count numbers is in its range and above the one before.
-fn numbers_valid(numbers: &[u16], count: usize, range: Range) -> bool
-    requires { (0 < count) × (count ≤ length numbers.now) }
-    ensures { result ≡ every (λ i. within range (get_or numbers.now i 0) && rises numbers.now i) count }
+// Whether each of the numbers is in its range and above the one before.
+fn numbers_valid(numbers: &[u16], range: Range) -> bool
+    requires { 0 < length numbers.now }
+    ensures { result ≡ every (λ i. within range (get_or numbers.now i 0) && rises numbers.now i) (length numbers.now) }
 {
-    let first = numbers[0];
-    let mut valid = within(range, first);
-    let mut i: usize = 1;
-    while i < count {
-        valid = valid & later_valid(numbers, range, i);
-        i += 1;
+    let mut valid = range.contains(numbers[0]);
+    for i in 1..numbers.len() {
+        valid &= later_valid(numbers, range, i);
     }
     valid
 }
 
-// Whether lent numbers are a speed axis: 2 to 32 of them, 1 to 3,000 rpm each, rising.
-pub fn speed_numbers_valid(numbers: &[u16; 32], count: usize) -> bool
-    ensures { result ≡ valid_speeds numbers.now count }
+// The numbers of an axis as far as they are counted; none where its count is not from two to its places.
+pub fn counted<const N: usize>(axis: &Axis<N>) -> Option<&[u16]>
+    ensures { Counted N axis.now.numbers axis.now.count result }
 {
-    if count < 2 {
-        return false;
+    if axis.count < 2 || N < axis.count {
+        return None;
     }
-    if 32 < count {
-        return false;
-    }
-    numbers_valid(numbers, count, SPEED_RANGE)
+    Some(&axis.numbers[..axis.count])
 }
 
-// Whether lent numbers are a torque axis: 2 to 64 of them, 0 to 50,000 Nm each, rising, with the rule of the first step.
-pub fn torque_numbers_valid(numbers: &[u16; 64], count: usize) -> bool
-    ensures { result ≡ valid_torques numbers.now count }
+// Whether an axis has two numbers or more, no more than it has places, each in its range and above the one before.
+fn axis_valid<const N: usize>(axis: &Axis<N>, range: Range) -> bool
+    ensures { result ≡ valid_numbers N range axis.now.numbers axis.now.count }
 {
-    if count < 2 {
-        return false;
+    match counted(axis) {
+        None => false,
+        Some(numbers) => numbers_valid(numbers, range),
     }
-    if 64 < count {
-        return false;
-    }
-    if !numbers_valid(numbers, count, TORQUE_RANGE) {
-        return false;
-    }
-    let first = numbers[0];
-    let second = numbers[1];
-    first_step_holds(first, second)
 }
 
-// Whether a speed axis keeps its rules.
-pub fn speeds_valid(axis: SpeedAxis) -> bool
-    ensures { result ≡ valid_speeds axis.numbers axis.count }
+// Whether a speed axis keeps its rules: 2 to 32 numbers, 1 to 3,000 rpm each, rising.
+pub fn speeds_valid(axis: &SpeedAxis) -> bool
+    ensures { result ≡ valid_speeds axis.now.numbers axis.now.count }
 {
-    speed_numbers_valid(&axis.numbers, axis.count)
+    axis_valid(axis, SPEED_RANGE)
 }
 
-// Whether a torque axis keeps its rules.
-pub fn torques_valid(axis: TorqueAxis) -> bool
-    ensures { result ≡ valid_torques axis.numbers axis.count }
+// Whether a torque axis keeps its rules: 2 to 64 numbers, 0 to 50,000 Nm each, rising, with the rule of the first step.
+pub fn torques_valid(axis: &TorqueAxis) -> bool
+    ensures { result ≡ valid_torques axis.now.numbers axis.now.count }
 {
-    torque_numbers_valid(&axis.numbers, axis.count)
-}
-
-// Whether both axes of a grid, lent in parts, keep their rules.
-pub fn grid_parts_valid(
-    speeds: &[u16; 32],
-    speed_count: usize,
-    torques: &[u16; 64],
-    torque_count: usize,
-) -> bool
-    ensures { result ≡ valid_grid (grid_of speeds.now speed_count torques.now torque_count) }
-{
-    if !speed_numbers_valid(speeds, speed_count) {
-        return false;
-    }
-    torque_numbers_valid(torques, torque_count)
+    axis_valid(axis, TORQUE_RANGE) && first_step_holds(axis.numbers[0], axis.numbers[1])
 }
 
 // Whether both axes of a grid keep their rules.
-pub fn grid_valid(grid: Grid) -> bool
-    ensures { result ≡ valid_grid grid }
+#[tactic(auto, unfolding(crate::specs::Map::valid_grid))]
+pub fn grid_valid(grid: &Grid) -> bool
+    ensures { result ≡ valid_grid grid.now }
 {
-    let speeds = grid.speeds;
-    let torques = grid.torques;
-    grid_parts_valid(
-        &speeds.numbers,
-        speeds.count,
-        &torques.numbers,
-        torques.count,
-    )
+    speeds_valid(&grid.speeds) && torques_valid(&grid.torques)
 }

@@ -16,7 +16,7 @@ use Rattle.grid.specs.declared.Range.{Range}
 use Rattle.grid.proofs.Every.{and_fst, and_snd}
 use Rattle.grid.proofs.Numbers.{Wrong, numbers_refused, number_right, number_outside, number_level}
 use Rattle.grid.specs.Rules.{InRange, AxisRules, FirstStep}
-use Rattle.grid.proofs.Axis.{in_range, within_range, not_in_range, not_within, rises_next, rises_of, axis_accepted, rules_accepted}
+use Rattle.grid.proofs.AxisLaws.{in_range, within_range, not_in_range, not_within, rises_next, rises_of, axis_accepted, rules_accepted}
 use Rattle.fields.specs.Bytes.{number_of, pairs}
 use Rattle.fields.specs.Field.{exactly, numbers, number, axis}
 use Rattle.fields.specs.Sensor.{sensor}

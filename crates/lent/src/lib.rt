@@ -45,5 +45,5 @@ pub fn entries_valid(entries: &[u32], count: usize) -> bool
 pub fn map_valid(grid: &Grid, entries: &[u32]) -> bool
     ensures { result ≡ valid_map grid.now entries.now }
 {
-    grid::grid_valid(*grid) && entries_valid(entries, grid.speeds.count * grid.torques.count)
+    grid::grid_valid(grid) && entries_valid(entries, grid.speeds.count * grid.torques.count)
 }

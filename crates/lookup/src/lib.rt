@@ -88,7 +88,7 @@ fn last_at_or_below(numbers: &[u16], scale: u64, v: u64) -> Option<usize>
 pub fn nearest(grid: &Grid, speed: u32, torque: u32) -> Result<GridPoint, Refusal>
     ensures { outcome_of result ≡ nearest_answer grid.now (record { speed = speed; torque = torque }) }
 {
-    if !grid::grid_valid(*grid) {
+    if !grid::grid_valid(grid) {
         return Err(Refusal::NotAMap);
     }
     let speeds = &grid.speeds.numbers[..grid.speeds.count];

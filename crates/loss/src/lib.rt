@@ -233,7 +233,7 @@ pub fn measured_loss(ratio: u16, input: u32, output: u32) -> MeasuredLoss
 pub fn allowance(ratio: u16, input: u32, output: u32) -> u64
     ensures { Same (result over 20000) (allowance ratio input output) × (result < 2 ^ 48) }
 {
-    let twentieth = arith::part_above(at_ratio(input, ratio), 1000 * (output as u64));
+    let twentieth = at_ratio(input, ratio).saturating_sub(1000 * (output as u64));
     if twentieth < 2000000 {
         2000000
     } else {
@@ -246,11 +246,11 @@ pub fn measured_entry(ratio: u16, input: u32, output: u32, uncertainty: u32) -> 
     ensures { result ≡ entry_of ratio input output uncertainty }
 {
     let allowed = allowance(ratio, input, output);
-    let more = arith::part_above(200 * (uncertainty as u64), allowed);
+    let more = (200 * (uncertainty as u64)).saturating_sub(allowed);
     let gained = 20 * at_ratio(input, ratio);
     let spent = 20000 * (output as u64);
     if spent <= gained {
         return rounded_up(gained - spent + more, 20000);
     }
-    rounded_up(arith::part_above(gained + more, spent), 20000)
+    rounded_up((gained + more).saturating_sub(spent), 20000)
 }

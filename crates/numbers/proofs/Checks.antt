@@ -2,42 +2,39 @@
 use Prim.Native.Nat.{ℕ, ◌≤◌, ◌<◌}
 use mathlib.Core.Path.{◌≡◌, refl}
 use mathlib.Core.List.{List}
-use native.Mathlib.Nat.{sub-zero}
-use borrow.Author.Tests.{le-leb, lt-leb}
-use lib.ListN.{length, take}
-use lib.Seq.{length-take-le}
+use borrow.Author.Tests.{lt-leb}
+use lib.ListN.{length}
+use lib.Dec.{leb}
+use mathlib.Core.Logic.{◌⊎◌, inl, inr}
 use Rattle.refusal.specs.Outcome.{Outcome, accepted, refused, refuse, ◌>>=◌, without_place}
 use Rattle.refusal.proofs.Steps.{then_accepted, test_accepted}
 use Rattle.grid.specs.Axis.{◌to◌, within, axis_numbers}
 use Rattle.grid.specs.declared.Range.{Range}
 use Rattle.grid.specs.declared.Grid.{Grid}
-use Rattle.grid.proofs.Axis.{in_range, within_range}
-use Rattle.fields.specs.Bytes.{between}
+use Rattle.grid.proofs.AxisLaws.{in_range, within_range}
+use Rattle.grid.specs.Counted.{CountedNumbers}
+use Rattle.grid.proofs.Every.{and_false}
 use Rattle.numbers.specs.Check.{axis_check, axes_check}
 
 -- ---- how many numbers an axis has
 module _ (most : ℕ) (range : Range) (ns : List ℕ) (count : ℕ) where
-  pub too_few : count < 2 → axis_check most range ns count ≡ refuse 3 0
+  pub not_counted : (count < 2) ⊎ (most < count) → axis_check most range ns count ≡ refuse 3 0
   unfolding axis_check within
-  too_few h = rw (lt-leb 2 count h)
-
-  pub too_many : 2 ≤ count → most < count → axis_check most range ns count ≡ refuse 3 0
-  unfolding axis_check within
-  too_many h k = rw (le-leb 2 count h, lt-leb count most k)
+  not_counted (inl few) = rw (lt-leb 2 count few)
+  not_counted (inr many) = rw (lt-leb count most many, and_false (leb 2 count))
 
   pub count_within : axis_check most range ns count ≡ accepted tt → (2 ≤ count) × (count ≤ most)
   unfolding axis_check
   count_within e = in_range (2 to most) count (test_accepted (within (2 to most) count) 3 0 _ tt e).0
 
--- the fault of an axis, which has no more numbers than places, is told with place 0
-pub fault_told : (range : Range) (ns : List ℕ) (count : ℕ) → 2 ≤ count → count ≤ length ns
-    → (o : Outcome (Unit {0})) → o ≡ axis_numbers range (between ns 0 count) (length (between ns 0 count))
-    → axis_check (length ns) range ns count ≡ without_place o
+-- the fault of an axis is told with place 0
+pub fault_told : (most : ℕ) (range : Range) (ns part : List ℕ) (count : ℕ) → CountedNumbers most ns count part
+    → (o : Outcome (Unit {0})) → o ≡ axis_numbers range part (length part)
+    → axis_check most range ns count ≡ without_place o
 unfolding axis_check
-fault_told range ns count h k o e =
-    let whole : length (take count ns) ≡ count = length-take-le count ns k in
-    let told = rw (sub-zero count, whole) at e in
-    rw (within_range (2 to length ns) count (h, k), told)
+fault_told most range ns part count c o e =
+    let told = rw (c.long, c.numbers) at e in
+    rw (within_range (2 to most) count (c.at_least, c.at_most), told)
 
 -- ---- a sequence of tests that ends with one
 pub ends_there : (o : Outcome (Unit {0})) → (o >>= λ _. accepted tt) ≡ o

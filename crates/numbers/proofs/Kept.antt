@@ -14,7 +14,7 @@ use Rattle.grid.specs.Map.{torques_of}
 use Rattle.grid.specs.Rules.{InRange, AxisRules, FirstStep}
 use Rattle.grid.specs.declared.Range.{Range}
 use Rattle.grid.specs.declared.Grid.{Grid}
-use Rattle.grid.proofs.Axis.{in_range, within_range, axis_accepted, rules_accepted}
+use Rattle.grid.proofs.AxisLaws.{in_range, within_range, axis_accepted, rules_accepted}
 use Rattle.sensor.specs.Sensor.{sensor_check, sensor_numbers}
 use Rattle.sensor.specs.declared.Sensor.{Sensor}
 use Rattle.sensor.proofs.Sensors.{sensor_rules, sensor_accepted}

@@ -1,16 +1,16 @@
 // The numbers that a caller hands over to be written as component data, and the tests of them that come before those of the rows.
 #![tactic(auto)]
 
-ghost use Rattle.std.specs.Prelude.{◌≡◌, ◌∷◌, ◌≤◌, length};
+ghost use Rattle.std.specs.Prelude.{◌≡◌, ◌∷◌, ◌≤◌};
 ghost use Rattle.refusal.specs.Outcome.{without_place};
-ghost use Rattle.refusal.specs.Table.{answer_says};
+ghost use Rattle.refusal.specs.Table.{outcome_of};
 ghost use Rattle.sensor.specs.Sensor.{sensor_check, sensor_numbers};
 ghost use Rattle.component.specs.Answers.{outputs_of};
 ghost use Rattle.numbers.specs.Check.{axle_check, axis_check, axes_check, sensors_check, measured_check, numbers_check};
 
-use grid::{AxisFault, Grid, Range};
-use refusal::{Answer, Refusal};
-use sensor::{Sensor, SensorFault};
+use grid::{Axis, AxisFault, Grid, Range};
+use refusal::Refusal;
+use sensor::Sensor;
 
 // The numbers of component data but for its rows. What the kind does not have is not looked at: of kind 1 the sensors, of kind 2 the right one.
 #[derive(Clone, Copy)]
@@ -28,116 +28,94 @@ pub struct Numbers {
     pub right: Sensor,
 }
 
-fn axle_check(kind: u16, line: u16, ratio: u16) -> Answer
-    ensures { answer_says result ≡ axle_check kind line ratio }
+#[tactic(auto, unfolding(crate::specs::Check::axle_check))]
+fn axle_check(kind: u16, line: u16, ratio: u16) -> Result<(), Refusal>
+    ensures { outcome_of result ≡ axle_check kind line ratio }
 {
-    if !grid::within(component::KINDS, kind) {
-        return Answer::Refused(Refusal::OutOfRange(0));
+    if !component::KINDS.contains(kind) {
+        return Err(Refusal::OutOfRange(0));
     }
-    if !grid::within(component::LINES, line) {
-        return Answer::Refused(Refusal::OutOfRange(0));
+    if !component::LINES.contains(line) {
+        return Err(Refusal::OutOfRange(0));
     }
-    if !grid::within(component::RATIOS, ratio) {
-        return Answer::Refused(Refusal::OutOfRange(0));
+    if !component::RATIOS.contains(ratio) {
+        return Err(Refusal::OutOfRange(0));
     }
-    Answer::Accepted
+    Ok(())
 }
 
-// An axis has at most as many numbers as it has places.
-fn axis_check(numbers: &[u16], count: usize, range: Range) -> Answer
-    ensures { answer_says result ≡ axis_check (length numbers.now) range numbers.now count }
+fn axis_check<const N: usize>(axis: &Axis<N>, range: Range) -> Result<(), Refusal>
+    ensures { outcome_of result ≡ axis_check N range axis.now.numbers axis.now.count }
 {
-    if count < 2 {
-        return Answer::Refused(Refusal::WrongLength(0));
-    }
-    if numbers.len() < count {
-        return Answer::Refused(Refusal::WrongLength(0));
-    }
-    match grid::axis_fault(&numbers[0..count], range) {
-        AxisFault::Nothing => Answer::Accepted,
-        AxisFault::OutOfRange(_) => Answer::Refused(Refusal::OutOfRange(0)),
-        AxisFault::NotRising(_) => Answer::Refused(Refusal::NotRising(0)),
+    let Some(numbers) = grid::counted(axis) else {
+        return Err(Refusal::WrongLength(0));
+    };
+    match grid::check_axis(numbers, range) {
+        Ok(()) => Ok(()),
+        Err(fault) => match fault {
+            AxisFault::OutOfRange(_) => Err(Refusal::OutOfRange(0)),
+            AxisFault::NotRising(_) => Err(Refusal::NotRising(0)),
+        },
     }
 }
 
-fn axes_check(grid: Grid) -> Answer
-    ensures { answer_says result ≡ axes_check grid }
+#[tactic(auto, unfolding(crate::specs::Check::axes_check))]
+fn axes_check(grid: &Grid) -> Result<(), Refusal>
+    ensures { outcome_of result ≡ axes_check grid.now }
 {
-    let speeds = grid.speeds;
-    match axis_check(&speeds.numbers, speeds.count, grid::SPEED_RANGE) {
-        Answer::Refused(x) => return Answer::Refused(x),
-        Answer::Accepted => {}
+    axis_check(&grid.speeds, grid::SPEED_RANGE)?;
+    axis_check(&grid.torques, grid::TORQUE_RANGE)?;
+    if !grid::first_step_holds(grid.torques.numbers[0], grid.torques.numbers[1]) {
+        return Err(Refusal::FirstTorqueAboveStep(0));
     }
-    let torques = grid.torques;
-    match axis_check(&torques.numbers, torques.count, grid::TORQUE_RANGE) {
-        Answer::Refused(x) => return Answer::Refused(x),
-        Answer::Accepted => {}
-    }
-    let numbers = torques.numbers;
-    if !grid::first_step_holds(numbers[0], numbers[1]) {
-        return Answer::Refused(Refusal::FirstTorqueAboveStep(0));
-    }
-    Answer::Accepted
+    Ok(())
 }
 
-fn sensor_check(sensor: Sensor) -> Answer
-    ensures { answer_says result ≡ without_place (sensor_check (sensor_numbers sensor)) }
+fn sensor_check(sensor: Sensor) -> Result<(), Refusal>
+    ensures { outcome_of result ≡ without_place (sensor_check (sensor_numbers sensor)) }
 {
-    let numbers = sensor::numbers_of(sensor);
-    match sensor::sensor_fault(&numbers) {
-        SensorFault::Nothing => Answer::Accepted,
-        SensorFault::OutOfRange(_) => Answer::Refused(Refusal::OutOfRange(0)),
+    match sensor::sensor_fault(&sensor.numbers()) {
+        None => Ok(()),
+        Some(_) => Err(Refusal::OutOfRange(0)),
     }
 }
 
 // The sensors of a measured kind.
-fn sensors_check(kind: u16, input: Sensor, output: Sensor, right: Sensor) -> Answer
-    ensures { answer_says result ≡ sensors_check (input ∷ outputs_of kind output right) }
+#[tactic(auto, unfolding(crate::specs::Check::sensors_check))]
+fn sensors_check(numbers: &Numbers) -> Result<(), Refusal>
+    ensures { outcome_of result ≡ sensors_check (numbers.now.input ∷ outputs_of numbers.now.kind numbers.now.output numbers.now.right) }
 {
-    match sensor_check(input) {
-        Answer::Refused(x) => return Answer::Refused(x),
-        Answer::Accepted => {}
+    sensor_check(numbers.input)?;
+    sensor_check(numbers.output)?;
+    if numbers.kind == 2 {
+        return Ok(());
     }
-    match sensor_check(output) {
-        Answer::Refused(x) => return Answer::Refused(x),
-        Answer::Accepted => {}
-    }
-    if kind == 2 {
-        return Answer::Accepted;
-    }
-    sensor_check(right)
+    sensor_check(numbers.right)
 }
 
 // The sensors, and how many torques the rows have: one of each sensor at each point.
-fn measured_check(numbers: Numbers, row_torque_count: usize) -> Answer
-    requires { (numbers.grid.speeds.count ≤ 32) × (numbers.grid.torques.count ≤ 64) }
-    ensures { answer_says result ≡ measured_check numbers row_torque_count }
+#[tactic(auto, unfolding(crate::specs::Check::measured_check))]
+fn measured_check(numbers: &Numbers, row_torque_count: usize) -> Result<(), Refusal>
+    requires { (numbers.now.grid.speeds.count ≤ 32) × (numbers.now.grid.torques.count ≤ 64) }
+    ensures { outcome_of result ≡ measured_check numbers.now row_torque_count }
 {
     if numbers.kind == 1 {
-        return Answer::Accepted;
+        return Ok(());
     }
-    match sensors_check(numbers.kind, numbers.input, numbers.output, numbers.right) {
-        Answer::Refused(x) => return Answer::Refused(x),
-        Answer::Accepted => {}
-    }
+    sensors_check(numbers)?;
     let points = numbers.grid.speeds.count * numbers.grid.torques.count;
     if row_torque_count != (numbers.kind as usize) * points {
-        return Answer::Refused(Refusal::WrongLength(0));
+        return Err(Refusal::WrongLength(0));
     }
-    Answer::Accepted
+    Ok(())
 }
 
 // The tests of the numbers in the reader's order, and of how many torques the rows have; each refusal with place 0.
-pub fn check(numbers: Numbers, row_torque_count: usize) -> Answer
-    ensures { answer_says result ≡ numbers_check numbers row_torque_count }
+#[tactic(auto, unfolding(crate::specs::Check::numbers_check))]
+pub fn check(numbers: &Numbers, row_torque_count: usize) -> Result<(), Refusal>
+    ensures { outcome_of result ≡ numbers_check numbers.now row_torque_count }
 {
-    match axle_check(numbers.kind, numbers.line, numbers.ratio) {
-        Answer::Refused(x) => return Answer::Refused(x),
-        Answer::Accepted => {}
-    }
-    match axes_check(numbers.grid) {
-        Answer::Refused(x) => return Answer::Refused(x),
-        Answer::Accepted => {}
-    }
+    axle_check(numbers.kind, numbers.line, numbers.ratio)?;
+    axes_check(&numbers.grid)?;
     measured_check(numbers, row_torque_count)
 }

@@ -4,6 +4,8 @@
 ghost use Rattle.std.specs.Prelude.{◌≡◌};
 ghost use Rattle.refusal.specs.Table.{number, place};
 
+use std::fmt;
+
 // Each case holds the place that is given with it; those without one have place 0.
 #[derive(Clone, Copy)]
 pub enum Refusal {
@@ -112,6 +114,13 @@ impl Refusal {
             Refusal::NotAMap => Refusal::NotAMap,
             Refusal::FileTooShort(_) => Refusal::FileTooShort(0),
         }
+    }
+}
+
+// As the map program tells it.
+impl fmt::Display for Refusal {
+    fn fmt<W: fmt::Write>(&self, f: &mut fmt::Formatter<W>) -> fmt::Result {
+        write!(f, "refused {} at {}", self.number(), self.place())
     }
 }
 

@@ -12,7 +12,7 @@ use Rattle.refusal.proofs.First.{first_all, first_found}
 use Rattle.grid.specs.Axis.{within, ◌to◌}
 use Rattle.grid.specs.Rules.{InRange}
 use Rattle.grid.specs.declared.Range.{Range}
-use Rattle.grid.proofs.Axis.{in_range, within_range}
+use Rattle.grid.proofs.AxisLaws.{in_range, within_range}
 use Rattle.sensor.specs.Sensor.{sensor_ranges, SensorRules, sensor_number_check, sensor_check, sensor_of, sensor_numbers}
 use Rattle.sensor.specs.declared.Sensor.{Sensor}
 

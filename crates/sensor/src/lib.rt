@@ -2,7 +2,7 @@
 #![tactic(auto)]
 
 ghost use Rattle.std.specs.Prelude.{◌≡◌, ◌<◌, get_or};
-ghost use Rattle.grid.specs.Axis.{within, ◌to◌};
+ghost use Rattle.grid.specs.Axis.{◌to◌};
 ghost use Rattle.sensor.specs.Sensor.{sensor_ranges, sensor_check, sensor_of, sensor_numbers};
 ghost use Rattle.sensor.specs.Fault.{sensor_fault_of};
 
@@ -79,56 +79,51 @@ fn range_at(i: usize) -> Range
     RANGES[i]
 }
 
-// The index of the first number that is outside its range.
-#[derive(Clone, Copy)]
-pub enum SensorFault {
-    Nothing,
-    OutOfRange(usize),
-}
-
-// Looks for it among a sensor's numbers, left to right.
-pub fn sensor_fault(numbers: &[u16; 9]) -> SensorFault
+// The index of the first number that is outside its range, left to right.
+pub fn sensor_fault(numbers: &[u16; 9]) -> Option<usize>
     ensures { sensor_fault_of result ≡ sensor_check numbers.now }
 {
-    let mut i: usize = 0;
-    while i < 9 {
-        if !grid::within(range_at(i), numbers[i]) {
-            return SensorFault::OutOfRange(i);
+    for i in 0..numbers.len() {
+        if !range_at(i).contains(numbers[i]) {
+            return Some(i);
         }
-        i += 1;
     }
-    SensorFault::Nothing
+    None
 }
 
-pub fn sensor_of(numbers: &[u16; 9]) -> Sensor
-    ensures { result ≡ sensor_of numbers.now }
-{
-    Sensor {
-        nominal: numbers[0],
-        sensitivity: numbers[1],
-        zero: numbers[2],
-        calibration: numbers[3],
-        advancement: numbers[4],
-        parasitic: numbers[5],
-        share: numbers[6],
-        difference: numbers[7],
-        span: numbers[8],
+impl From<[u16; 9]> for Sensor {
+    ghost from_gives = { λ numbers sensor. sensor ≡ sensor_of numbers };
+
+    fn from(numbers: [u16; 9]) -> Sensor {
+        Sensor {
+            nominal: numbers[0],
+            sensitivity: numbers[1],
+            zero: numbers[2],
+            calibration: numbers[3],
+            advancement: numbers[4],
+            parasitic: numbers[5],
+            share: numbers[6],
+            difference: numbers[7],
+            span: numbers[8],
+        }
     }
 }
 
-// And back: the numbers of a sensor.
-pub fn numbers_of(sensor: Sensor) -> [u16; 9]
-    ensures { result ≡ sensor_numbers sensor }
-{
-    [
-        sensor.nominal,
-        sensor.sensitivity,
-        sensor.zero,
-        sensor.calibration,
-        sensor.advancement,
-        sensor.parasitic,
-        sensor.share,
-        sensor.difference,
-        sensor.span,
-    ]
+impl Sensor {
+    // And back: its nine numbers.
+    pub fn numbers(self) -> [u16; 9]
+        ensures { result ≡ sensor_numbers self }
+    {
+        [
+            self.nominal,
+            self.sensitivity,
+            self.zero,
+            self.calibration,
+            self.advancement,
+            self.parasitic,
+            self.share,
+            self.difference,
+            self.span,
+        ]
+    }
 }

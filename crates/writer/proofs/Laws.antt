@@ -15,7 +15,7 @@ use Rattle.grid.specs.Axis.{◌to◌, within}
 use Rattle.grid.specs.Lists.{overwritten}
 use Rattle.grid.specs.Parts.{grid_of}
 use Rattle.grid.specs.Rules.{InRange}
-use Rattle.grid.proofs.Axis.{in_range}
+use Rattle.grid.proofs.AxisLaws.{in_range}
 use Rattle.component.specs.Component.{Component, Kind, standard, measured, Rows, kind_number}
 use Rattle.component.specs.Answers.{outputs_of}
 use Rattle.layout.specs.Layout.{encoded, torque_bytes, torques_in}

@@ -1,49 +1,24 @@
 -- `component::read_measured` meets its contract. Assumes nothing.
+use Rattle.std.proofs.Common.{arith, refl}
+use Rattle.std.proofs.lemmas.Result.{err_from_is_err_and}
 use Rattle.component.specs.Component.{measured_fields, rows}
-use Rattle.fields.proofs.Heads.{inside, head_refused, body_accepted}
-use mathlib.Core.Path.{refl}
+use Rattle.fields.proofs.Heads.{inside, between_length, head_refused, body_accepted}
 use Rattle.component.proofs.read_measured.Goals as goal
 
-pub returns-in-Refused : goal.returns-in-Refused
+pub returns-in_err-rows-clause-answer : goal.returns-in_err-rows-clause-answer
 unfolding measured_fields
-returns-in-Refused c = record {
-  answer = rw (← (rw c.in-Refused.is at c.sensor.ensures));
-  rows_within = tt;
-  no_right = tt;
-}
+returns-in_err-rows-clause-answer c =
+    let exit = err_from_is_err_and c.from_residual-in_err-rows.result c.from_residual-in_err-rows.ensures.1 in
+    let h = rw (c.rows_tag.ensures, c.rows_length.ensures) at c.in_err-rows.ensures.answer in
+    rw (exit.1, exit.2, ← c.in_ok-input.ensures, ← c.in_ok-outputs.ensures, ← head_refused _ _ _ _ rows _ h)
 
-pub returns-in-Refused-read_outputs : goal.returns-in-Refused-read_outputs
+pub returns-clause-answer : goal.returns-clause-answer
 unfolding measured_fields
-returns-in-Refused-read_outputs c =
-    let input_is = rw c.in-Read.is at c.sensor.ensures in
-    record {
-      answer = rw (← input_is, ← (rw c.in-Refused-read_outputs.is at c.read_outputs.ensures.0));
-      rows_within = tt;
-      no_right = tt;
-    }
+returns-clause-answer c =
+    let h = rw (c.rows_tag.ensures, c.rows_length.ensures) at c.in_ok-rows.ensures.answer in
+    rw (c.in_ok-rows.ensures.body, ← c.in_ok-input.ensures, ← c.in_ok-outputs.ensures, ← body_accepted _ _ _ _ rows _ h _ refl)
 
-pub returns-in-Refused-field : goal.returns-in-Refused-field
-unfolding measured_fields
-returns-in-Refused-field c =
-    let input_is = rw c.in-Read.is at c.sensor.ensures in
-    let outputs_are = rw c.in-Read-read_outputs.is at c.read_outputs.ensures.0 in
-    let h = rw (c.rows_tag.ensures, c.rows_length-length.ensures) at (rw c.in-Refused-field.is at c.field.ensures) in
-    record {
-      answer = rw (← input_is, ← outputs_are, ← head_refused _ _ _ _ rows _ h);
-      rows_within = tt;
-      no_right = tt;
-    }
-
-pub returns-in-Field : goal.returns-in-Field
-unfolding measured_fields
-returns-in-Field c =
-    let input_is = rw c.in-Read.is at c.sensor.ensures in
-    let outputs_are = rw c.in-Read-read_outputs.is at c.read_outputs.ensures.0 in
-    let no_right = rw c.in-Read-read_outputs.is at c.read_outputs.ensures.1 in
-    let h = rw (c.rows_tag.ensures, c.rows_length-length.ensures) at (rw c.in-Field.is at c.field.ensures) in
-    let i = inside _ _ _ _ _ h in
-    record {
-      answer = rw (← input_is, ← outputs_are, ← body_accepted _ _ _ _ rows _ h _ refl);
-      rows_within = (i.forward, i.ends);
-      no_right = no_right;
-    }
+pub returns-clause-rows_within : goal.returns-clause-rows_within
+returns-clause-rows_within c =
+    let i = inside _ _ _ _ _ c.in_ok-rows.ensures.answer in
+    rw (c.in_ok-rows.ensures.body, between_length _ _ _ i.forward i.ends) (omega (arith, i.forward, i.ends))

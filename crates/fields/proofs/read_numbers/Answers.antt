@@ -1,8 +1,4 @@
-use mathlib.Core.Path.{refl}
-use Prim.Native.Nat.{◌<◌, ◌/◌}
-use native.Mathlib.Omega.{arith}
-use native.Mathlib.Nat.{sub-zero}
-use lib.ListN.{length}
+use Rattle.std.proofs.Common.{◌<◌, ◌/◌, arith, length, refl}
 use Rattle.fields.proofs.Bodies.{axis_accepted, axis_refused, index_below}
 use Rattle.fields.proofs.read_numbers.Goals as goal
 use Rattle.fields.proofs.read_numbers.Goals.{In-NotRising, In-OutOfRange}
@@ -10,11 +6,11 @@ use Rattle.fields.proofs.read_numbers.Goals.{In-NotRising, In-OutOfRange}
 -- the index is that of one of the body's numbers
 range_index : (c : In-OutOfRange) → c.in-OutOfRange.i < length c.args.body.now / 2
 range_index c =
-    index_below _ _ _ c.args.place _ c.fill.ensures _ (rw sub-zero refl) 4 _ (rw c.in-OutOfRange.is at c.axis_fault.ensures)
+    index_below _ _ _ c.args.place _ c.fill.ensures _ refl 4 _ (rw c.in-OutOfRange.is at c.in-Err.ensures)
 
 order_index : (c : In-NotRising) → c.in-NotRising.i < length c.args.body.now / 2
 order_index c =
-    index_below _ _ _ c.args.place _ c.fill.ensures _ (rw sub-zero refl) 5 _ (rw c.in-NotRising.is at c.axis_fault.ensures)
+    index_below _ _ _ c.args.place _ c.fill.ensures _ refl 5 _ (rw c.in-NotRising.is at c.in-Err.ensures)
 
 pub overflow_mul-result : goal.overflow_mul-result
 overflow_mul-result c = omega (arith, range_index (goal.at.overflow_mul-result c).In-OutOfRange)
@@ -30,12 +26,12 @@ overflow_add-result-in-NotRising c = omega (arith, order_index (goal.at.overflow
 
 pub returns-in-OutOfRange : goal.returns-in-OutOfRange
 returns-in-OutOfRange c =
-    axis_refused _ _ _ _ _ c.fill.ensures _ (rw sub-zero refl) 4 _ (rw c.in-OutOfRange.is at c.axis_fault.ensures)
+    axis_refused _ _ _ _ _ c.fill.ensures _ refl 4 _ (rw c.in-OutOfRange.is at c.in-Err.ensures)
 
 pub returns-in-NotRising : goal.returns-in-NotRising
 returns-in-NotRising c =
-    axis_refused _ _ _ _ _ c.fill.ensures _ (rw sub-zero refl) 5 _ (rw c.in-NotRising.is at c.axis_fault.ensures)
+    axis_refused _ _ _ _ _ c.fill.ensures _ refl 5 _ (rw c.in-NotRising.is at c.in-Err.ensures)
 
-pub returns-in-Nothing : goal.returns-in-Nothing
-returns-in-Nothing c =
-    axis_accepted _ _ _ _ _ c.fill.ensures _ (rw sub-zero refl) (rw c.in-Nothing.is at c.axis_fault.ensures)
+pub returns-in-Ok : goal.returns-in-Ok
+returns-in-Ok c =
+    axis_accepted _ _ _ _ _ c.fill.ensures _ refl c.in-Ok.ensures

@@ -4,7 +4,7 @@ use borrow.Author.Rules.{rules}
 use Rattle.loss.proofs.allowance.Goals as goal
 
 pub returns-then-twentieth-lt2000000 : goal.returns-then-twentieth-lt2000000
-returns-then-twentieth-lt2000000 c = (found_one_newton_metre _ _ _ _ c.at_ratio.ensures.0 _ c.part_above-twentieth.ensures c.if-twentieth-lt2000000.true, search rules)
+returns-then-twentieth-lt2000000 c = (found_one_newton_metre _ _ _ _ c.at_ratio.ensures.0 _ c.saturating_sub-twentieth.ensures c.if-twentieth-lt2000000.true, search rules)
 
 pub returns-else-twentieth-lt2000000 : goal.returns-else-twentieth-lt2000000
-returns-else-twentieth-lt2000000 c = (found_twentieth _ _ _ _ c.at_ratio.ensures.0 _ c.part_above-twentieth.ensures c.if-twentieth-lt2000000.false, search rules)
+returns-else-twentieth-lt2000000 c = (found_twentieth _ _ _ _ c.at_ratio.ensures.0 _ c.saturating_sub-twentieth.ensures c.if-twentieth-lt2000000.false, search rules)

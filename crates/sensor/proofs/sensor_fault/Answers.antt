@@ -1,22 +1,21 @@
-use Rattle.sensor.proofs.Sensors.{number_inside, number_outside}
-use Prim.Native.Nat.{zero-le}
-use mathlib.Core.Path.{refl, sym, ◌∙◌}
-use borrow.Author.Rules.{rules}
+-- `sensor::sensor_fault` meets its contract. The invariant: the outcome of all numbers is that of the numbers from i on. Assumes nothing.
+use Rattle.std.proofs.Common.{refl, sym, ◌∙◌}
 use Rattle.refusal.proofs.First.{first_none, first_more, first_stops}
 use Rattle.sensor.specs.Sensor.{sensor_check}
+use Rattle.sensor.proofs.Sensors.{number_inside, number_outside}
 use Rattle.sensor.proofs.sensor_fault.Goals as goal
 
 pub loop-i-init : goal.loop-i-init
 unfolding sensor_check
-loop-i-init c = (zero-le, refl)
+loop-i-init c = refl
 
-pub returns-then-not-within : goal.returns-then-not-within
-returns-then-not-within c =
-    sym (c.loop-i.invariant.1 ∙ first_stops _ _ _ _ c.loop-i-test.true (number_outside _ _ _ _ c.range_at.ensures c.within.ensures c.if-not-within.true))
+pub returns-then-not-contains : goal.returns-then-not-contains
+returns-then-not-contains c =
+    sym (c.loop-i.invariant ∙ first_stops _ _ _ _ c.loop-i-test.true (number_outside _ _ _ _ c.range_at.ensures c.contains.ensures c.if-not-contains.true))
 
 pub loop-i-preserved : goal.loop-i-preserved
 loop-i-preserved c =
-    (search rules, c.loop-i.invariant.1 ∙ first_more _ _ _ c.loop-i-test.true (number_inside _ _ _ _ c.range_at.ensures c.within.ensures c.if-not-within.false))
+    c.loop-i.invariant ∙ first_more _ _ _ c.loop-i-test.true (number_inside _ _ _ _ c.range_at.ensures c.contains.ensures c.if-not-contains.false)
 
 pub returns : goal.returns
-returns c = sym (c.loop-i.invariant.1 ∙ first_none _ _ _ c.loop-i-test.false)
+returns c = sym (c.loop-i.invariant ∙ first_none _ _ _ c.loop-i-test.false)

@@ -1,49 +1,29 @@
-use mathlib.Core.Path.{◌≡◌}
-use native.Mathlib.Omega.{arith}
-use lib.ListN.{length}
-use Rattle.refusal.specs.Outcome.{accepted}
-use Rattle.fields.specs.Field.{head, numbers}
-use Rattle.fields.proofs.Heads.{Inside, inside, numbers_length, head_refused, body_refused, body_accepted}
+use Rattle.std.proofs.Common.{ℕ, arith}
+use Rattle.std.proofs.lemmas.List.{length-replicate}
+use Rattle.std.proofs.lemmas.Result.{err_from_is_err_and}
+use Rattle.fields.proofs.Heads.{numbers_body, head_refused, body_refused, body_accepted}
 use Rattle.fields.proofs.Cursor.axis.Goals as goal
-use Rattle.fields.proofs.Cursor.axis.Goals.{In-Field}
 
--- at the body: the head was read, and the body stands in the bytes
-head_is : (c : In-Field)
-    → accepted (record { tag = c.in-Field.kind; start = c.in-Field.start; end = c.in-Field.next.at }) ≡ head c.args.«data».now c.args.self.at c.args.tag (numbers 2 (length c.args.numbers.now))
-head_is c = rw c.in-Field.is at c.field.ensures
-
-body_inside : (c : In-Field)
-    → Inside c.args.«data».now (numbers 2 (length c.args.numbers.now)) c.in-Field.start c.in-Field.next.at
-body_inside c = inside _ _ _ _ _ (head_is c)
-
-pub slice_bounds-body-count : goal.slice_bounds-body-count
-slice_bounds-body-count c = (body_inside (goal.at.slice_bounds-body-count c).In-Field).forward
-
-pub slice_bounds-body-start : goal.slice_bounds-body-start
-slice_bounds-body-start c = (body_inside (goal.at.slice_bounds-body-start c).In-Field).forward
-
-pub slice_bounds-body-end : goal.slice_bounds-body-end
-slice_bounds-body-end c = (body_inside (goal.at.slice_bounds-body-end c).In-Field).ends
+pub returns-in_err-found-clause-answer : goal.returns-in_err-found-clause-answer
+returns-in_err-found-clause-answer g c =
+    let exit = err_from_is_err_and c.from_residual.result c.from_residual.ensures.1 in
+    rw (exit.1, exit.2) (head_refused _ _ _ _ _ _ c.in_err-found.ensures.answer)
 
 pub read_numbers-requires : goal.read_numbers-requires
-read_numbers-requires c = let l = numbers_length _ _ _ _ _ (body_inside (goal.at.read_numbers-requires c).In-Field) in (l.0, omega (arith, l.2))
+read_numbers-requires g c =
+    let l = numbers_body _ _ _ _ _ c.in_ok-found.ensures.body 2 _ c.in_ok-found.ensures.answer in
+    rw (length-replicate {A = ℕ} g.row.N 0) (l.0, omega (arith, l.2))
 
-pub returns-in-Refused : goal.returns-in-Refused
-returns-in-Refused c = record {
-  answer = head_refused _ _ _ _ _ _ (rw c.in-Refused.is at c.field.ensures);
-  count_within = tt;
-}
+pub returns-in_err-read_numbers-clause-answer : goal.returns-in_err-read_numbers-clause-answer
+returns-in_err-read_numbers-clause-answer g c =
+    let exit = err_from_is_err_and c.from_residual-in_err-read_numbers.result c.from_residual-in_err-read_numbers.ensures.1 in
+    rw (exit.1, exit.2) (body_refused _ _ _ _ _ _ c.in_ok-found.ensures.answer _ (rw c.in_ok-found.ensures.body at c.in_err-read_numbers.ensures))
 
-pub returns-in-Refused-read_numbers : goal.returns-in-Refused-read_numbers
-returns-in-Refused-read_numbers c =
-    record {
-      answer = body_refused _ _ _ _ _ _ (head_is (goal.at.returns-in-Refused-read_numbers c).In-Field) _ (rw c.in-Refused-read_numbers.is at c.read_numbers.ensures);
-      count_within = tt;
-    }
+pub returns-clause-answer : goal.returns-clause-answer
+returns-clause-answer g c =
+    body_accepted _ _ _ _ _ _ c.in_ok-found.ensures.answer _ (rw (← c.in_ok-found.ensures.body) c.in_ok-read_numbers.ensures)
 
-pub returns-in-Accepted : goal.returns-in-Accepted
-returns-in-Accepted c =
-    record {
-      answer = body_accepted _ _ _ _ _ _ (head_is (goal.at.returns-in-Accepted c).In-Field) _ (rw c.in-Accepted.is at c.read_numbers.ensures);
-      count_within = let l = numbers_length _ _ _ _ _ (body_inside (goal.at.returns-in-Accepted c).In-Field) in (l.1, omega (arith, l.0));
-    }
+pub returns-clause-count_within : goal.returns-clause-count_within
+returns-clause-count_within g c =
+    let l = numbers_body _ _ _ _ _ c.in_ok-found.ensures.body 2 _ c.in_ok-found.ensures.answer in
+    (l.1, omega (arith, l.0))
