@@ -3,6 +3,9 @@ use Prim.Native.Nat.{ℕ, ◌*◌, ◌≤◌, ◌<◌}
 use mathlib.Core.Path.{◌≡◌}
 use native.Mathlib.Omega.{arith}
 use native.Mathlib.Nat.{mul-le-mul}
+use mathlib.Core.List.{List}
+use lib.ListN.{length, drop}
+use Rattle.std.proofs.lemmas.List.{at_drop_all}
 use Rattle.arith.specs.Quotient.{quotient_up, quotient_up_law, quotient_up_least}
 use Rattle.arith.specs.Root.{root_up}
 use Rattle.arith.proofs.Squares.{square_at_most}
@@ -11,7 +14,7 @@ use Rattle.sensor.specs.Sensor.{SensorRules}
 use Rattle.sensor.specs.declared.Sensor.{Sensor}
 use Rattle.loss.specs.declared.PreparedSensor.{PreparedSensor}
 use Rattle.loss.specs.declared.Steps.{Steps}
-use Rattle.loss.specs.Measured.{grains_up, temperature_on_sensitivity, temperature_on_zero, calibration, parasitic_loads, fixed_parts, sensor_uncertainty, uncertainty_law, sensor_steps, scaled_uncertainty}
+use Rattle.loss.specs.Measured.{grains_up, temperature_on_sensitivity, temperature_on_zero, calibration, parasitic_loads, fixed_parts, sensor_uncertainty, uncertainty_law, sensor_steps, scaled_uncertainty, sum_of_squares}
 
 -- ---- U
 
@@ -63,6 +66,9 @@ scaled_at_most {factor} {U} h k = quotient_at_most (U * factor) 1000 860000000 (
 pub scaled_by_one : (U : ℕ) → scaled_uncertainty 1000 U ≡ U
 unfolding scaled_uncertainty
 scaled_by_one U = let u = quotient_up_law (U * 1000) 1000 (omega arith) in omega (arith, u.not_below, u.near)
+
+pub no_square_left : (vs : List ℕ) (i : ℕ) → length vs ≤ i → sum_of_squares (drop i vs) ≡ 0
+no_square_left vs i h = at_drop_all sum_of_squares vs i h
 
 pub root_at_most : (n most : ℕ) → n ≤ most * most → root_up n ≤ most
 root_at_most n most h = (root_up_law n).least most h

@@ -1,5 +1,5 @@
 -- Laws of values over one denominator, of the larger fraction, and of rounding up. Assumes nothing.
-use Prim.Native.Nat.{ℕ, ◌+◌, ◌*◌, ◌-◌, ◌/◌, ◌%◌, ◌≤◌, ◌<◌, min}
+use Prim.Native.Nat.{ℕ, ◌+◌, ◌*◌, ◌-◌, ◌≤◌, ◌<◌}
 use mathlib.Core.Path.{◌≡◌, refl, sym, ap, ◌∙◌}
 use mathlib.Core.Bool.{Bool, true, false, cond}
 use native.Mathlib.Omega.{arith}
@@ -8,7 +8,6 @@ use native.Mathlib.Nat.{mul-le-mul_right, le_of_mul-le-mul_right, lt_of_mul-lt-m
 use borrow.Author.Tests.{leb-true, leb-false, ltb-true, ltb-false}
 use lib.Dec.{leb, ltb}
 use lib.IntN.{pos}
-use Rattle.std.proofs.lemmas.Grind.{div_ceil_times}
 use Rattle.arith.specs.Quotient.{quotient_up, QuotientUp, quotient_up_law}
 use Rattle.arith.specs.Fraction.{Fraction, ◌over◌, whole, ◌⊖◌, cleared, ◌≼◌, ◌≺◌, larger, RoundsUp, Same}
 use Rattle.arith.proofs.Quotients.{is_quotient_up}
@@ -81,10 +80,6 @@ is_part_above {x} {y} {n} {k} {d} i j = go (dec_le k n)
     go (no h) = let z : n - k ≡ 0 = omega arith in rw z (larger_right (is_difference i j) zero (omega arith))
 
 -- ---- rounding up
-
--- as `div_ceil` finds it
-pub quotient_up_is : (n d : ℕ) → 0 < d → n / d + min 1 (n % d) ≡ quotient_up n d
-quotient_up_is n d h = let b = div_ceil_times n d h in is_quotient_up h (record { not_below = b.0; near = b.1 })
 
 -- it looks at the value alone
 pub round_up_is : {x : Fraction} {p m d : ℕ} → Is x p m d → round_up x ≡ quotient_up (p - m) d

@@ -120,6 +120,7 @@ fn fixed_parts(sensor: Sensor) -> FixedParts
 }
 
 // U from a, b, g and h: the root of 4 * (a*a + b*b + 3*g*g + h*h) / 3, rounded up.
+#[tactic(auto, using(arith::proofs::Quotients::div_ceil_is_quotient_up, crate::proofs::Parts::uncertainty_at_most), unfolding(crate::specs::Measured::sensor_uncertainty))]
 fn sensor_uncertainty(a: u64, b: u64, g: u64, h: u64) -> u64
     requires { (a ≤ 25000000) × (b ≤ 25000000) × (g ≤ 5000000) × (h ≤ 5000000) }
     ensures uncertainty { result ≡ sensor_uncertainty a b g h }
@@ -182,6 +183,7 @@ fn at_ratio(n: u32, ratio: u16) -> u64
 }
 
 // A sensor's uncertainty times a factor in thousandths, rounded up to a grain.
+#[tactic(auto, using(arith::proofs::Quotients::div_ceil_is_quotient_up), unfolding(crate::specs::Measured::scaled_uncertainty))]
 pub fn scaled_uncertainty(factor: u16, uncertainty: u32) -> u64
     ensures { result ≡ scaled_uncertainty factor uncertainty }
 {
@@ -189,6 +191,7 @@ pub fn scaled_uncertainty(factor: u16, uncertainty: u32) -> u64
 }
 
 // The loss uncertainty in grains: the root of the sum of the squares, rounded up.
+#[tactic(auto, using(crate::proofs::Parts::no_square_left, crate::proofs::Parts::root_at_most), unfolding(crate::specs::Measured::loss_uncertainty))]
 pub fn loss_uncertainty(parts: &[u64]) -> u64
     requires { sum_of_squares parts.now < 2 ^ 64 }
     ensures uncertainty { result ≡ loss_uncertainty parts.now }
@@ -203,6 +206,7 @@ pub fn loss_uncertainty(parts: &[u64]) -> u64
 
 // The measured loss of a row: input torque times the ratio, less the output torque; nothing where that is under zero.
 // In half micronewton metres: 20,000 to a hundredth of Nm, so that 5 % of it is whole.
+#[tactic(auto, using(crate::proofs::Values::loss_says))]
 pub fn measured_loss(ratio: u16, input: u32, output: u32) -> Option<u64>
     ensures { LossSays ratio input output result }
 {
@@ -220,6 +224,7 @@ pub fn allowance(ratio: u16, input: u32, output: u32) -> u64
 }
 
 // The entry of a row, from its loss uncertainty in grains: what that has above the allowance is added to the measured loss, and the sum rounded up to a hundredth.
+#[tactic(auto, using(arith::proofs::Quotients::div_ceil_is_quotient_up, crate::proofs::Rounding::same_is, crate::proofs::Values::entry_is))]
 pub fn measured_entry(ratio: u16, input: u32, output: u32, uncertainty: u32) -> u64
     ensures { result ≡ entry_of ratio input output uncertainty }
 {

@@ -1,7 +1,7 @@
 -- What the code's answers about a row say in document 01's terms.
 use Rattle.std.specs.Prelude.{ℕ, ◌+◌, ◌≤◌, ◌*◌, List, [], ◌∷◌, length, get_or, drop, Option, Some, None, IfSome}
-use Rattle.std.specs.Option.{option_to_list}
 use Rattle.refusal.specs.Outcome.{Outcome, accepted, ◌>>=◌, placed, first_refusal}
+use Rattle.component.specs.Answers.{output_sensors}
 use Rattle.sensor.specs.Sensor.{SensorRules}
 use Rattle.sensor.specs.declared.Sensor.{Sensor}
 use Rattle.grid.specs.Lists.{tabulate}
@@ -29,7 +29,7 @@ abbrev pub bench_with : (ratio : ℕ) (input output : Sensor) (right : Option Se
 bench_with ratio input output right = record {
   ratio = ratio;
   input = input;
-  outputs = output ∷ option_to_list right;
+  outputs = output_sensors output right;
 }
 
 -- each sensor keeps its rules

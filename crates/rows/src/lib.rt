@@ -1,8 +1,7 @@
 // The rows of readings: what a row is, its refusal (7 to 10) or its entry, and all rows of a map in their order.
 #![tactic(auto)]
 
-ghost use Rattle.std.specs.Prelude.{◌≡◌, ◌+◌, ◌*◌, ◌≤◌, ◌<◌, ◌^◌, length, drop, leb, IfNone, OnOk};
-ghost use Rattle.std.specs.Option.{option_to_list};
+ghost use Rattle.std.specs.Prelude.{◌≡◌, ◌+◌, ◌*◌, ◌≤◌, ◌<◌, ◌^◌, length, leb, IfNone, OnOk};
 ghost use Rattle.refusal.specs.Outcome.{require, first_refusal};
 ghost use Rattle.refusal.specs.Table.{outcome_of};
 ghost use Rattle.grid.specs.Lists.{tabulate, joined, overwritten};
@@ -11,43 +10,13 @@ ghost use Rattle.loss.specs.Measured.{row_uncertainty};
 ghost use Rattle.rows.specs.Rows.{torque_at, row_at, row_start, near_axis, outputs_check};
 ghost use Rattle.rows.specs.Answers.{bench_of, bench_with, BenchRight, row_of, row_outcome, part_check, part_entry, speed_part_check, speed_part_entries};
 
+use component::Rows;
 use loss::PreparedSensor;
 use refusal::Refusal;
 use sensor::Sensor;
 
 // In hundredths of Nm.
 const LARGEST_ENTRY: u64 = 10_000_000;
-
-// The bytes of rows, and where the first of them stands in the data.
-#[derive(Clone, Copy)]
-pub struct RowBytes<'a> {
-    pub bytes: &'a [u8],
-    pub place: usize,
-    pub ghost within: { place + length bytes.now < 2 ^ 64 },
-}
-
-impl RowBytes<'_> {
-    // Those from an index on.
-    fn starting_at(self, at: usize) -> Self
-        requires { at ≤ length self.bytes.now }
-        ensures bytes { result.bytes.now ≡ drop at self.entry.bytes.now }
-        ensures place { result.place ≡ self.entry.place + at }
-    {
-        RowBytes {
-            bytes: &self.bytes[at..],
-            place: self.place + at,
-        }
-    }
-
-    // The torque at an index.
-    fn torque_at(self, at: usize) -> u32
-        requires { at + 4 ≤ length self.bytes.now }
-        ensures { result ≡ torque_at self.entry.bytes.now at }
-    {
-        let bytes = self.bytes;
-        u32::from_be_bytes([bytes[at], bytes[at + 1], bytes[at + 2], bytes[at + 3]])
-    }
-}
 
 // The torques of a row, in hundredths of Nm. The right one is 0 where there is no right sensor.
 #[derive(Clone, Copy)]
@@ -66,6 +35,15 @@ pub struct Bench {
     pub right: Option<PreparedSensor>,
 }
 
+// The torque at an index of the rows' bytes.
+#[tactic(auto, using(crate::proofs::FourBytes::four_at), unfolding(crate::specs::Rows::torque_at))]
+fn torque_at(bytes: &[u8], at: usize) -> u32
+    requires { at + 4 ≤ length bytes.now }
+    ensures { result ≡ torque_at bytes.now at }
+{
+    u32::from_be_bytes([bytes[at], bytes[at + 1], bytes[at + 2], bytes[at + 3]])
+}
+
 // 7: a torque must not be above its sensor's nominal torque. The torque is at a place of the data.
 fn check_nominal(nominal: u16, torque: u32, place: usize) -> Result<(), Refusal>
     ensures { outcome_of result ≡ require (leb torque (100 * nominal)) 7 place }
@@ -78,6 +56,7 @@ fn check_nominal(nominal: u16, torque: u32, place: usize) -> Result<(), Refusal>
 }
 
 // Whether an output torque, in hundredths, is at most 5.00 Nm from its axis torque.
+#[tactic(auto, unfolding(crate::specs::Rows::near_axis))]
 fn near_axis(torque: u16, output: u32) -> bool
     ensures { result ≡ near_axis torque output }
 {
@@ -103,23 +82,25 @@ impl Bench {
         if self.right.is_some() { 12 } else { 8 }
     }
 
-    // The torques of the row that starts at an index.
-    fn torques_at(&self, rows: RowBytes, at: usize) -> Torques
-        requires { at + row_length (sensor_count (bench_of self.now).outputs) ≤ length rows.bytes.now }
-        ensures row { row_of self.now result ≡ row_at (bench_of self.now) rows.entry.bytes.now at }
+    // The torques of the row that starts at an index of the rows' bytes.
+    #[tactic(auto, unfolding(crate::specs::Rows::row_at, crate::specs::Rows::outputs_at))]
+    fn torques_at(&self, bytes: &[u8], at: usize) -> Torques
+        requires { at + row_length (sensor_count (bench_of self.now).outputs) ≤ length bytes.now }
+        ensures row { row_of self.now result ≡ row_at (bench_of self.now) bytes.now at }
         ensures right { IfNone self.now.right (result.right ≡ 0) }
     {
         Torques {
-            input: rows.torque_at(at),
-            output: rows.torque_at(at + 4),
+            input: torque_at(bytes, at),
+            output: torque_at(bytes, at + 4),
             right: match self.right {
-                Some(_) => rows.torque_at(at + 8),
+                Some(_) => torque_at(bytes, at + 8),
                 None => 0,
             },
         }
     }
 
     // 7 of each output; the first torque of them is at a place of the data.
+    #[tactic(auto, unfolding(crate::specs::Rows::outputs_check))]
     fn check_outputs(&self, torques: Torques, place: usize) -> Result<(), Refusal>
         requires { place + 4 < 2 ^ 64 }
         ensures { outcome_of result ≡ outputs_check (row_of self.now torques).outputs place }
@@ -177,16 +158,17 @@ impl Bench {
 
 // The rows of one speed: their entries are written to the first places of what is lent.
 fn fill_speed(
-    rows: RowBytes,
+    rows: Rows,
     bench: &Bench,
     torques: &[u16],
     entries: &mut [u32],
 ) -> Result<(), Refusal>
     requires bench { BenchRight bench.now }
     requires rows { row_start (bench_of bench.now) (length torques.now) ≤ length rows.bytes.now }
+    requires place { rows.start + length rows.bytes.now < 2 ^ 64 }
     requires entries { length torques.now ≤ length entries.old }
     ensures answer { outcome_of result ≡
-        first_refusal (part_check (bench_of bench.now) torques.now rows.entry.bytes.now rows.entry.place)
+        first_refusal (part_check (bench_of bench.now) torques.now rows.entry.bytes.now rows.entry.start)
         0 (length torques.now) }
     ensures filled { OnOk result (entries.new ≡
         overwritten (tabulate (part_entry (bench_of bench.now) rows.entry.bytes.now) (length torques.now)) entries.old) }
@@ -194,7 +176,7 @@ fn fill_speed(
     let length = bench.row_length();
     for (i, torque) in torques.iter().enumerate() {
         let at = length * i;
-        let entry = bench.entry(*torque, bench.torques_at(rows, at), rows.place + at)?;
+        let entry = bench.entry(*torque, bench.torques_at(rows.bytes, at), rows.start + at)?;
         entries[i] = entry;
     }
     Ok(())
@@ -202,7 +184,7 @@ fn fill_speed(
 
 // The rows of all speeds, one speed after the other.
 pub fn fill_rows(
-    rows: RowBytes,
+    rows: Rows,
     bench: &Bench,
     speeds: usize,
     torques: &[u16],
@@ -210,9 +192,10 @@ pub fn fill_rows(
 ) -> Result<(), Refusal>
     requires bench { BenchRight bench.now }
     requires rows { row_start (bench_of bench.now) (speeds * length torques.now) ≤ length rows.bytes.now }
+    requires place { rows.start + length rows.bytes.now < 2 ^ 64 }
     requires entries { speeds * length torques.now ≤ length entries.old }
     ensures answer { outcome_of result ≡
-        first_refusal (speed_part_check (bench_of bench.now) torques.now rows.entry.bytes.now rows.entry.place)
+        first_refusal (speed_part_check (bench_of bench.now) torques.now rows.entry.bytes.now rows.entry.start)
         0 speeds }
     ensures filled { OnOk result (entries.new ≡
         overwritten (joined (speed_part_entries (bench_of bench.now) torques.now rows.entry.bytes.now) speeds)
@@ -221,7 +204,11 @@ pub fn fill_rows(
     let length = bench.row_length();
     for speed in 0..speeds {
         let first = speed * torques.len();
-        let of_speed = rows.starting_at(length * first);
+        let at = length * first;
+        let of_speed = Rows {
+            start: rows.start + at,
+            bytes: &rows.bytes[at..],
+        };
         fill_speed(of_speed, bench, torques, &mut entries[first..])?;
     }
     Ok(())

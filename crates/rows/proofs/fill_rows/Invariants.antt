@@ -6,4 +6,4 @@ use Rattle.rows.proofs.fill_rows.Given as goal
 
 abbrev pub invariant-loop-speed : goal.invariant-loop-speed
 invariant-loop-speed l =
-    Joining (speed_part_check (bench_of l.bench) l.torques l.rows.bytes.now l.rows.place) (speed_part_entries (bench_of l.bench) l.torques l.rows.bytes.now) (length l.torques) l.speeds l.initial.entries l.entries (l.speed * length l.torques) l.speed
+    Joining (speed_part_check (bench_of l.bench) l.torques l.rows.bytes.now l.rows.start) (speed_part_entries (bench_of l.bench) l.torques l.rows.bytes.now) (length l.torques) l.speeds l.initial.entries l.entries (l.speed * length l.torques) l.speed

@@ -1,7 +1,7 @@
 -- `loss::PreparedSensor::steps` meets its contract: a sensor in its ranges has small parts. Assumes nothing.
 use Rattle.std.proofs.Common.{◌≡◌, ◌*◌, ◌<◌, arith}
 use Rattle.loss.specs.Measured.{grains_up, temperature_on_sensitivity, fixed_parts}
-use Rattle.loss.proofs.Rounding.{quotient_up_is}
+use Rattle.arith.proofs.Quotients.{div_ceil_is_quotient_up}
 use Rattle.loss.proofs.Parts.{sensitivity_at_most, zero_at_most, calibration_at_most, parasitic_at_most, steps_made}
 use Rattle.loss.proofs.PreparedSensor.steps.Goals as goal
 use Rattle.loss.proofs.PreparedSensor.steps.Goals.{After-div_ceil-sensitivity}
@@ -11,7 +11,7 @@ unfolding grains_up temperature_on_sensitivity
 is_part c =
     let s = c.args.self.now.sensor in
     let some : 0 < 100000 * s.span = omega (arith, c.requires.sensor.span.0) in
-    let q = quotient_up_is (s.sensitivity * s.difference * c.args.torque) (100000 * s.span) some in
+    let q = div_ceil_is_quotient_up (s.sensitivity * s.difference * c.args.torque) (100000 * s.span) some in
     cc
 
 pub sensor_uncertainty-uncertainty-requires : goal.sensor_uncertainty-uncertainty-requires
