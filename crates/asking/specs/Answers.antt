@@ -1,22 +1,25 @@
 -- What the code that builds and then asks answers, in document 01's terms.
-use Rattle.std.specs.Prelude.{ℕ, ◌≡◌, List}
-use Rattle.map.specs.Answers.{Builds}
-use Rattle.refusal.specs.Outcome.{refuse}
+use Rattle.std.specs.Prelude.{ℕ, ◌≡◌, List, Result, Ok, Err, IfOk}
+use Rattle.refusal.specs.Table.{outcome_of}
 use Rattle.refusal.specs.declared.Refusal.{Refusal}
 use Rattle.refusal.specs.declared.Answer.TheVariants.{Accepted, Refused}
+use Rattle.grid.specs.declared.Grid.{Grid}
+use Rattle.map.specs.Answers.{Builds}
 use Rattle.cell.specs.Cell.{Point}
 use Rattle.lookup.specs.Loss.{loss_answer}
-use Rattle.lookup.specs.Answers.{loss_answer_of}
 use Rattle.accuracy.specs.Demand.{Accurate}
 use Rattle.asking.specs.declared.Asked.{Asked}
 
+-- the build's answer: its grid beside the loss, or its refusal
+abbrev pub BuildAnswers : (bytes before after : List ℕ) → Result Asked Refusal → Type 0
+BuildAnswers bytes before after (Ok asked) = Builds bytes before after (record { answer = Accepted; grid = asked.grid })
+BuildAnswers bytes before after (Err x) = (grid : Grid) × Builds bytes before after (record { answer = Refused x; grid = grid })
+
 -- what `ask` promises for all data, all lent entries and every point
-pub record Asks (bytes before after : List ℕ) (p : Point) (r : Asked) : Type 0 where
-  -- the build's answer, its grid, and the whole content of the lent entries at exit
-  pub builds : Builds bytes before after (record { answer = r.built; grid = r.grid })
-  -- the loss at the point over them, or why there is none
-  pub asked : loss_answer_of r.loss ≡ loss_answer r.grid after p
-  -- where the build refuses there is no map to ask
-  pub no_map : (x : Refusal) → r.built ≡ Refused x → loss_answer_of r.loss ≡ refuse 22 0
+pub record Asks (bytes before after : List ℕ) (p : Point) (r : Result Asked Refusal) : Type 0 where
+  -- the build's answer, and the whole content of the lent entries at exit
+  pub builds : BuildAnswers bytes before after r
+  -- the loss at the point over the map, or why there is none
+  pub asked : IfOk r (λ asked. outcome_of asked.loss ≡ loss_answer asked.grid after p)
   -- demand 3
-  pub accurate : r.built ≡ Accepted → Accurate bytes r.grid after
+  pub accurate : IfOk r (λ asked. Accurate bytes asked.grid after)

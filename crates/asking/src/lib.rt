@@ -4,24 +4,29 @@
 ghost use Rattle.asking.specs.Answers.{Asks};
 
 use grid::Grid;
-use lookup::LossAnswer;
-use refusal::Answer;
+use refusal::{Answer, Refusal};
 
-// The build's answer and grid, and the answer to the query. Where the build refuses, the grid means nothing and the query is refused with 22.
+// The axes of the map that was built, and the answer to the query.
 #[derive(Clone, Copy)]
 pub struct Asked {
-    pub built: Answer,
     pub grid: Grid,
-    pub loss: LossAnswer,
+    pub loss: Result<i64, Refusal>,
 }
 
 // Builds the map of component data in the lent entries, then asks it for the loss at a point, speed in tenths of rpm and torque in hundredths of Nm.
-pub fn ask(data: &[u8], entries: &mut [u32], speed: u32, torque: u32) -> Asked
+// Where the build refuses there is no map and nothing to ask.
+pub fn ask(data: &[u8], entries: &mut [u32], speed: u32, torque: u32) -> Result<Asked, Refusal>
     ensures { Asks «data».now entries.old entries.new (record { speed = speed; torque = torque }) result }
 {
-    let made = map::build(data, entries);
-    let built = made.answer;
-    let grid = made.grid;
-    let loss = lookup::loss(grid, entries, speed, torque);
-    Asked { built, grid, loss }
+    let built = map::build(data, entries);
+    match built.answer {
+        Answer::Refused(refusal) => Err(refusal),
+        Answer::Accepted => {
+            let loss = lookup::loss(&built.grid, entries, speed, torque);
+            Ok(Asked {
+                grid: built.grid,
+                loss,
+            })
+        }
+    }
 }

@@ -50,16 +50,6 @@ pow_positive : (k : ℕ) → 1 ≤ 10 ^ k
 pow_positive zero = omega arith
 pow_positive (suc k) = omega (arith, pow-suc 10 k, pow_positive k)
 
--- four digits at once
-pub count_four : (n : ℕ) → 10000 ≤ n → digit_count n ≡ 4 + digit_count (n / 10000)
-count_four n h =
-    let e : n / 10 / 10 / 10 / 10 ≡ n / 10000 = omega arith in
-    let a = count_more n (omega arith) in
-    let b = count_more (n / 10) (omega arith) in
-    let c = count_more (n / 10 / 10) (omega arith) in
-    let d = count_more (n / 10 / 10 / 10) (omega arith) in
-    rw (← e) (omega arith)
-
 most_step : (k n : ℕ) → (10 ≤ n → digit_count (n / 10) ≤ suc k) → Dec (n < 10) → digit_count n ≤ suc (suc k)
 most_step k n f (yes q) = omega (arith, count_one n q)
 most_step k n f (no q) =

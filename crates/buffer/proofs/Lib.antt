@@ -1,3 +1,3 @@
 pub mod Digits
-pub mod Places
+pub mod Appending
 pub mod Fitted

@@ -1,16 +1,19 @@
 -- A text in a lent buffer, in place of what stood there.
-use Rattle.std.specs.Prelude.{ℕ, ◌+◌, ◌≡◌, List, ◌++◌, leb, length, take, drop}
+use Rattle.std.specs.Prelude.{ℕ, ◌+◌, ◌≤◌, ◌≡◌, List, ◌++◌, leb, length, take, drop}
 use Rattle.refusal.specs.Outcome.{Outcome, accepted, refused, ◌>>=◌, require}
 use Rattle.grid.specs.Lists.{overwritten}
+use Rattle.buffer.specs.declared.Writer.{Writer}
 
--- old with text from a place on
-unfoldable pub with_text : (old : List ℕ) (at : ℕ) (text : List ℕ) → List ℕ
-with_text old at text = take at old ++ (text ++ drop (at + length text) old)
+-- so many bytes more can be written
+abbrev pub HasRoom : ℕ → Writer → Type 0
+HasRoom count writer = writer.at + count ≤ length writer.text.now
 
--- text was written into old from a place on: next is the place after it, and new what the buffer then holds
-pub record TextWritten (text old : List ℕ) (at next : ℕ) (new : List ℕ) : Type 0 where
-  pub after : next ≡ at + length text
-  pub holds : new ≡ with_text old at text
+-- the bytes, for which there was room, were written at the writer's place: its place is now after them, and nothing else of its text has changed
+pub record Appends (bytes : List ℕ) (old new : Writer) : Type 0 where
+  pub same_reference : new.text.ghost_name ≡ old.text.ghost_name
+  pub room : HasRoom (length bytes) old
+  pub after : new.at ≡ old.at + length bytes
+  pub holds : new.text.now ≡ take old.at old.text.now ++ bytes ++ drop (old.at + length bytes) old.text.now
 
 -- the length of a text, where there is room for it; else this number with the length needed
 unfoldable pub fitted : (number : ℕ) (text : List ℕ) (room : ℕ) → Outcome ℕ

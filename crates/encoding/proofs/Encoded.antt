@@ -1,8 +1,7 @@
 -- Numbers written one after another, each as its bytes. Assumes nothing.
-use Prim.Native.Nat.{ℕ, zero, suc, ◌+◌, ◌*◌, ◌≤◌, ◌<◌}
+use Prim.Native.Nat.{ℕ, zero, suc, ◌+◌, ◌*◌, ◌≤◌}
 use mathlib.Core.Path.{◌≡◌, refl, sym, ap, ◌∙◌}
 use mathlib.Core.List.{List, [], ◌∷◌, ◌++◌, append_assoc, append-nil}
-use native.Mathlib.Nat.{mul-le-mul_right}
 use native.Mathlib.Omega.{arith}
 use lib.ListN.{length, get_or, length-append}
 use Rattle.grid.specs.Lists.{joined}
@@ -14,8 +13,9 @@ use Rattle.layout.specs.Layout.{two_bytes, encoded, number_bytes, field_bytes, s
 use Rattle.layout.proofs.FieldBytes.{length_number_bytes, length_field_bytes}
 use Rattle.layout.proofs.LaidOut.{length_sensor_bytes}
 use Rattle.layout.proofs.Runs.{tags_count}
-use Rattle.buffer.specs.Written.{TextWritten}
-use Rattle.buffer.proofs.Places.{length_with_text, written_nothing, written_then, written_next}
+use Rattle.buffer.specs.Written.{HasRoom, Appends}
+use Rattle.buffer.proofs.Appending.{length_kept, appends_then}
+use Rattle.buffer.specs.declared.Writer.{Writer}
 
 -- lists joined: the first of them, and then the others
 first_and_others : (f : ℕ → List ℕ) (count : ℕ) → joined f (suc count) ≡ f 0 ++ joined (λ i. f (suc i)) count
@@ -34,44 +34,23 @@ encoded_joined bytes_of [] = refl
 encoded_joined bytes_of (n ∷ ns) =
     first_and_others (bytes_at bytes_of (n ∷ ns)) (length ns) ∙ ap (λ (s : List ℕ). bytes_of n ++ s) (encoded_joined bytes_of ns)
 
--- ---- a loop that writes them: the first i stand there
-pub record EncodedSoFar (bytes_of : ℕ → List ℕ) (ns old : List ℕ) (at : ℕ) (file : List ℕ) (next i : ℕ) : Type 0 where
-  pub below : i ≤ length ns
-  pub kept : length file ≡ length old
-  pub written : TextWritten (joined (bytes_at bytes_of ns) i) old at next file
+pub all_encoded : (bytes_of : ℕ → List ℕ) (ns : List ℕ) {old new : Writer} → Appends (joined (bytes_at bytes_of ns) (length ns)) old new → Appends (encoded bytes_of ns) old new
+all_encoded bytes_of ns a = rw (encoded_joined bytes_of ns) at a
 
--- each number has as many bytes, and there is room for all
-module _ (bytes_of : ℕ → List ℕ) (size : ℕ) (same : (n : ℕ) → length (bytes_of n) ≡ size) (ns old : List ℕ) (at : ℕ) where
-  pub none_encoded : EncodedSoFar bytes_of ns old at old at 0
-  unfolding joined
-  none_encoded = record { below = omega arith; kept = refl; written = written_nothing old at }
-
-  module _ {file : List ℕ} {next i : ℕ} (e : EncodedSoFar bytes_of ns old at file next i) where
-    long : length (joined (bytes_at bytes_of ns) i) ≡ i * size
-    long = length_joined (bytes_at bytes_of ns) size i (λ s l. same (get_or ns s 0))
-
-    pub room_for_one : i < length ns → at + size * length ns ≤ length old → next + size ≤ length file
-    room_for_one more room = omega (arith, long, e.written.after, e.kept, room, mul-le-mul_right size more)
-
-    pub one_encoded : {new : List ℕ} {after : ℕ} → i < length ns → at + size * length ns ≤ length old → TextWritten (bytes_at bytes_of ns i) file next after new
-        → EncodedSoFar bytes_of ns old at new after (i + 1)
-    one_encoded more room w = record {
-      below = omega arith;
-      kept = ap length w.holds ∙ length_with_text file next (bytes_at bytes_of ns i) (omega (arith, same (get_or ns i 0), room_for_one more room)) ∙ e.kept;
-      written = written_next (bytes_at bytes_of ns) i e.written w (omega (arith, long, room, mul-le-mul_right size more));
-    }
-
-    pub all_encoded : length ns ≤ i → TextWritten (encoded bytes_of ns) old at next file
-    all_encoded end =
-        let done : i ≡ length ns = omega (arith, e.below) in
-        rw (done, encoded_joined bytes_of ns) at e.written
+-- each number has as many bytes, so that there is room for one where there is for all
+pub length_encoded : (bytes_of : ℕ → List ℕ) (size : ℕ) → ((n : ℕ) → length (bytes_of n) ≡ size) → (ns : List ℕ) (count : ℕ)
+    → length (joined (bytes_at bytes_of ns) count) ≡ count * size
+length_encoded bytes_of size same ns count = length_joined (bytes_at bytes_of ns) size count (λ s l. same (get_or ns s 0))
 
 -- ---- a field: its head, then its body
-pub field_written : {tag size at middle next : ℕ} {body old between new : List ℕ} → TextWritten (tag ∷ two_bytes size) old at middle between → TextWritten body between middle next new
-    → size ≡ length body → at + 3 ≤ length old → TextWritten (field_bytes tag body) old at next new
+pub field_appended : {tag size : ℕ} {body : List ℕ} {old between new : Writer} → Appends (tag ∷ two_bytes size) old between → Appends body between new
+    → size ≡ length body → Appends (field_bytes tag body) old new
 unfolding field_bytes
-field_written {tag} {size} {at} {middle} {next} {body} {old} {between} {new} h b e room =
-    written_then (rw e at h) b (omega arith)
+field_appended {tag} {size} {body} {old} {between} {new} h b e = appends_then (rw e at h) b
+
+-- room for more, where there was room for both
+pub room_after : {bytes : List ℕ} {old new : Writer} → Appends bytes old new → (count : ℕ) → HasRoom (length bytes + count) old → HasRoom count new
+room_after a count room = omega (arith, a.after, length_kept a, room)
 
 -- how many bytes it has, where its body is numbers of two bytes each
 pub length_numbers_field : (tag : ℕ) (ns : List ℕ) → length (field_bytes tag (number_bytes ns)) ≡ 3 + 2 * length ns

@@ -1,244 +1,143 @@
 // The listing of a map and the line of a refusal, written as text to the first bytes of a lent buffer.
 #![tactic(auto)]
 
-ghost use Rattle.std.specs.Prelude.{◌≡◌, ◌+◌, ◌*◌, ◌≤◌, ◌<◌, length};
-ghost use Rattle.refusal.specs.Table.{told};
-ghost use Rattle.grid.specs.Parts.{grid_of};
+ghost use Rattle.std.specs.Prelude.{◌≡◌, ◌*◌, ◌≤◌, length};
 ghost use Rattle.refusal.specs.Outcome.{refusal};
-ghost use Rattle.listing.specs.Listing.{line, row, rows, refusal_line, listing, listed, header as Listing·header};
-ghost use Rattle.buffer.specs.Answers.{length_answer_of};
-ghost use Rattle.buffer.specs.Written.{TextWritten, fitted, content_of};
+ghost use Rattle.refusal.specs.Table.{told, outcome_of};
+ghost use Rattle.buffer.specs.Written.{HasRoom, Appends, fitted, content_of};
+ghost use Rattle.listing.specs.Listing.{line, row, rows, refusal_line, listing, listed};
 
-use buffer::LengthAnswer;
+use buffer::Writer;
 use grid::Grid;
-use lent::map_parts_valid;
 use refusal::Refusal;
 
-// The first line of a listing, without its line feed.
-pub fn header() -> [u8; 17]
-    ensures { result ≡ Listing·header }
-{
-    *b"speed,torque,loss"
-}
-
-// Writes the line of one entry.
-fn write_line(speed: u16, torque: u16, loss: u32, text: &mut [u8], at: usize) -> usize
-    requires { at + length (line speed torque loss) ≤ length text.old }
-    ensures { TextWritten (line speed torque loss) text.old at result text.new }
-{
-    let after_speed = buffer::write_decimal(speed as usize, text, at);
-    let torque_at = buffer::write_byte(b',', text, after_speed);
-    let after_torque = buffer::write_decimal(torque as usize, text, torque_at);
-    let loss_at = buffer::write_byte(b',', text, after_torque);
-    let after_loss = buffer::write_hundredths(loss as usize, text, loss_at);
-    buffer::write_byte(b'\n', text, after_loss)
-}
-
-// How many bytes a line takes.
+// How many bytes the line of one entry takes.
+#[tactic(auto, using(crate::proofs::Lengths::length_line, buffer::proofs::Digits::length_decimal, buffer::proofs::Digits::length_hundredths))]
 fn line_length(speed: u16, torque: u16, loss: u32) -> usize
     ensures { (result ≡ length (line speed torque loss)) × (result ≤ 66) }
 {
     let loss_length = buffer::digit_count(loss as usize / 100) + 3;
-    buffer::digit_count(speed as usize) + buffer::digit_count(torque as usize) + loss_length + 3
+    buffer::digit_count(usize::from(speed)) + buffer::digit_count(usize::from(torque)) + loss_length + 3
 }
 
-// How many bytes the lines of one speed take. Its entries start at the index first.
-fn row_length(
-    speed: u16,
-    torques: &[u16; 64],
-    torque_count: usize,
-    entries: &[u32],
-    first: usize,
-) -> usize
-    requires { (torque_count ≤ 64) × (first + torque_count ≤ length entries.now) }
-    ensures { (result ≡ length (row speed torques.now torque_count entries.now first)) × (result ≤ 4224) }
+// Writes the line of one entry.
+#[tactic(auto, unfolding(crate::specs::Listing::line))]
+fn write_line(speed: u16, torque: u16, loss: u32, text: &mut Writer)
+    requires { HasRoom (length (line speed torque loss)) text.old }
+    ensures { Appends (line speed torque loss) text.old text.new }
 {
-    let mut total: usize = 0;
-    let mut j: usize = 0;
-    while j < torque_count {
-        total += line_length(speed, torques[j], entries[first + j]);
-        j += 1;
+    text.decimal(usize::from(speed));
+    text.byte(b',');
+    text.decimal(usize::from(torque));
+    text.byte(b',');
+    text.hundredths(loss as usize);
+    text.byte(b'\n');
+}
+
+// How many bytes the lines of one speed take.
+#[tactic(auto, using(buffer::proofs::Appending::joined_grows), unfolding(grid::specs::Lists::joined, crate::specs::Listing::row))]
+fn row_length(speed: u16, torques: &[u16], losses: &[u32]) -> usize
+    requires { (length torques.now ≤ 64) × (length torques.now ≤ length losses.now) }
+    ensures { (result ≡ length (row speed torques.now (length torques.now) losses.now 0)) × (result ≤ 4224) }
+{
+    let mut total = 0;
+    for (j, torque) in torques.iter().enumerate() {
+        total += line_length(speed, *torque, losses[j]);
     }
     total
 }
 
-// How many bytes the lines of all speeds take.
-fn rows_length(
-    speeds: &[u16; 32],
-    speed_count: usize,
-    torques: &[u16; 64],
-    torque_count: usize,
-    entries: &[u32],
-) -> usize
-    requires { (speed_count ≤ 32) × (torque_count ≤ 64) × (speed_count * torque_count ≤ length entries.now) }
-    ensures answer { result ≡ length (rows speeds.now speed_count torques.now torque_count entries.now) }
-    ensures at_most { result ≤ 135168 }
+// Writes the lines of one speed.
+#[tactic(auto, unfolding(grid::specs::Lists::joined, crate::specs::Listing::row))]
+fn write_row(speed: u16, torques: &[u16], losses: &[u32], text: &mut Writer)
+    requires enough { length torques.now ≤ length losses.now }
+    requires room { HasRoom (length (row speed torques.now (length torques.now) losses.now 0)) text.old }
+    ensures { Appends (row speed torques.now (length torques.now) losses.now 0) text.old text.new }
 {
-    let mut total: usize = 0;
-    let mut first: usize = 0;
-    let mut i: usize = 0;
-    while i < speed_count {
-        total += row_length(speeds[i], torques, torque_count, entries, first);
-        first += torque_count;
-        i += 1;
+    for (j, torque) in torques.iter().enumerate() {
+        write_line(speed, *torque, losses[j], text);
+    }
+}
+
+// How many bytes the listing of a map takes.
+#[tactic(auto, using(crate::proofs::Lengths::length_listing, crate::proofs::Parts::row_of_parts, buffer::proofs::Appending::joined_grows), unfolding(grid::specs::Lists::joined, crate::specs::Listing::rows))]
+fn listing_length(grid: &Grid, entries: &[u32]) -> usize
+    requires counts { (grid.now.speeds.count ≤ 32) × (grid.now.torques.count ≤ 64) }
+    requires enough { grid.now.speeds.count * grid.now.torques.count ≤ length entries.now }
+    ensures { result ≡ length (listing grid.now entries.now) }
+{
+    let speeds = &grid.speeds.numbers[..grid.speeds.count];
+    let torques = &grid.torques.numbers[..grid.torques.count];
+    let mut total = 18;
+    for (i, speed) in speeds.iter().enumerate() {
+        let first = i * torques.len();
+        total += row_length(*speed, torques, &entries[first..first + torques.len()]);
     }
     total
 }
 
-// Writes the lines of one speed. Its entries start at the index first.
-fn write_row(
-    speed: u16,
-    torques: &[u16; 64],
-    torque_count: usize,
-    entries: &[u32],
-    first: usize,
-    text: &mut [u8],
-    at: usize,
-) -> usize
-    requires { (torque_count ≤ 64)
-        × (first + torque_count ≤ length entries.now)
-        × (at + length (row speed torques.now torque_count entries.now first) ≤ length text.old) }
-    ensures { TextWritten (row speed torques.now torque_count entries.now first) text.old at result text.new }
+// Writes the listing of a map.
+#[tactic(auto, using(crate::proofs::Lengths::length_listing), unfolding(grid::specs::Lists::joined))]
+fn write_listing(grid: &Grid, entries: &[u32], text: &mut Writer)
+    requires counts { (grid.now.speeds.count ≤ 32) × (grid.now.torques.count ≤ 64) }
+    requires enough { grid.now.speeds.count * grid.now.torques.count ≤ length entries.now }
+    requires room { HasRoom (length (listing grid.now entries.now)) text.old }
+    ensures { Appends (listing grid.now entries.now) text.old text.new }
 {
-    let mut next = at;
-    let mut j: usize = 0;
-    while j < torque_count {
-        next = write_line(speed, torques[j], entries[first + j], text, next);
-        j += 1;
+    let speeds = &grid.speeds.numbers[..grid.speeds.count];
+    let torques = &grid.torques.numbers[..grid.torques.count];
+    text.bytes(b"speed,torque,loss\n");
+    for (i, speed) in speeds.iter().enumerate() {
+        let first = i * torques.len();
+        write_row(*speed, torques, &entries[first..first + torques.len()], text);
     }
-    next
-}
-
-// Writes the lines of all speeds.
-fn write_rows(
-    speeds: &[u16; 32],
-    speed_count: usize,
-    torques: &[u16; 64],
-    torque_count: usize,
-    entries: &[u32],
-    text: &mut [u8],
-    at: usize,
-) -> usize
-    requires { (speed_count ≤ 32)
-        × (torque_count ≤ 64)
-        × (speed_count * torque_count ≤ length entries.now)
-        × (at + length (rows speeds.now speed_count torques.now torque_count entries.now) ≤ length text.old) }
-    ensures { TextWritten (rows speeds.now speed_count torques.now torque_count entries.now)
-        text.old at result text.new }
-{
-    let mut next = at;
-    let mut first: usize = 0;
-    let mut i: usize = 0;
-    while i < speed_count {
-        next = write_row(speeds[i], torques, torque_count, entries, first, text, next);
-        first += torque_count;
-        i += 1;
-    }
-    next
-}
-
-// Writes the listing of a map that keeps its rules, where the text has room for it.
-fn write_valid(
-    speeds: &[u16; 32],
-    speed_count: usize,
-    torques: &[u16; 64],
-    torque_count: usize,
-    entries: &[u32],
-    text: &mut [u8],
-) -> LengthAnswer
-    requires { (speed_count ≤ 32) × (torque_count ≤ 64) × (speed_count * torque_count ≤ length entries.now) }
-    ensures answer { length_answer_of result ≡
-        fitted 11
-        (listing (grid_of speeds.now speed_count torques.now torque_count) entries.now)
-        (length text.old) }
-    ensures text_after { text.new ≡
-        content_of (length_answer_of result)
-        (listing (grid_of speeds.now speed_count torques.now torque_count) entries.now)
-        text.old }
-{
-    let needed = 18 + rows_length(speeds, speed_count, torques, torque_count, entries);
-    if text.len() < needed {
-        return LengthAnswer::Refused(Refusal::TooShort(needed));
-    }
-    let first_line = header();
-    let after_header = buffer::write_bytes(&first_line, text, 0);
-    let rows_at = buffer::write_byte(b'\n', text, after_header);
-    let length = write_rows(
-        speeds,
-        speed_count,
-        torques,
-        torque_count,
-        entries,
-        text,
-        rows_at,
-    );
-    LengthAnswer::Length(length)
 }
 
 // Writes the listing of a map from the start of the text, and answers its length. 22 is tested first, then 11, whose place is that length.
-pub fn write(grid: Grid, entries: &[u32], text: &mut [u8]) -> LengthAnswer
-    ensures answer { length_answer_of result ≡ listed grid entries.now (length text.old) }
-    ensures text_after { text.new ≡ content_of (length_answer_of result) (listing grid entries.now) text.old }
+#[tactic(auto, using(grid::proofs::Map::map_facts), unfolding(crate::specs::Listing::listed, buffer::specs::Written::fitted))]
+pub fn write(grid: &Grid, entries: &[u32], text: &mut [u8]) -> Result<usize, Refusal>
+    ensures answer { outcome_of result ≡ listed grid.now entries.now (length text.old) }
+    ensures text_after { text.new ≡ content_of (outcome_of result) (listing grid.now entries.now) text.old }
 {
-    let speeds = grid.speeds;
-    let torques = grid.torques;
-    write_in_parts(
-        &speeds.numbers,
-        speeds.count,
-        &torques.numbers,
-        torques.count,
-        entries,
-        text,
-    )
-}
-
-// The same over a grid that is lent in parts.
-pub fn write_in_parts(
-    speeds: &[u16; 32],
-    speed_count: usize,
-    torques: &[u16; 64],
-    torque_count: usize,
-    entries: &[u32],
-    text: &mut [u8],
-) -> LengthAnswer
-    ensures answer { length_answer_of result ≡
-        listed (grid_of speeds.now speed_count torques.now torque_count) entries.now
-        (length text.old) }
-    ensures text_after { text.new ≡
-        content_of (length_answer_of result)
-        (listing (grid_of speeds.now speed_count torques.now torque_count) entries.now)
-        text.old }
-{
-    if !map_parts_valid(speeds, speed_count, torques, torque_count, entries) {
-        return LengthAnswer::Refused(Refusal::NotAMap);
+    if !lent::map_valid(grid, entries) {
+        return Err(Refusal::NotAMap);
     }
-    write_valid(speeds, speed_count, torques, torque_count, entries, text)
+    let needed = listing_length(grid, entries);
+    if text.len() < needed {
+        return Err(Refusal::TooShort(needed));
+    }
+    let mut lines = Writer { text, at: 0 };
+    write_listing(grid, entries, &mut lines);
+    Ok(lines.at)
 }
 
-// Writes the line of a refusal by its number and place.
-fn write_refusal_line(number: u8, place: usize, text: &mut [u8]) -> usize
-    requires { length (refusal_line (refusal number place)) ≤ length text.old }
-    ensures { TextWritten (refusal_line (refusal number place)) text.old 0 result text.new }
+// Writes the line of a refusal.
+#[tactic(auto, unfolding(crate::specs::Listing::refusal_line))]
+fn write_refusal_line(number: u8, place: usize, line: &mut Writer)
+    requires { HasRoom (length (refusal_line (refusal number place))) line.old }
+    ensures { Appends (refusal_line (refusal number place)) line.old line.new }
 {
-    let number_at = buffer::write_bytes(b"refused ", text, 0);
-    let after_number = buffer::write_decimal(number as usize, text, number_at);
-    let place_at = buffer::write_bytes(b" at ", text, after_number);
-    let after_place = buffer::write_decimal(place, text, place_at);
-    buffer::write_byte(b'\n', text, after_place)
+    line.bytes(b"refused ");
+    line.decimal(usize::from(number));
+    line.bytes(b" at ");
+    line.decimal(place);
+    line.byte(b'\n');
 }
 
 // Writes the line of a refusal from the start of the text, or answers 11 with the bytes needed.
-pub fn write_refusal(x: Refusal, text: &mut [u8]) -> LengthAnswer
-    ensures answer { length_answer_of result ≡ fitted 11 (refusal_line (told x)) (length text.old) }
-    ensures text_after { text.new ≡ content_of (length_answer_of result) (refusal_line (told x)) text.old }
+#[tactic(auto, using(crate::proofs::Lengths::length_refusal_line, buffer::proofs::Digits::length_decimal, buffer::proofs::Appending::appended_first), unfolding(buffer::specs::Written::fitted))]
+pub fn write_refusal(x: Refusal, text: &mut [u8]) -> Result<usize, Refusal>
+    ensures answer { outcome_of result ≡ fitted 11 (refusal_line (told x)) (length text.old) }
+    ensures text_after { text.new ≡ content_of (outcome_of result) (refusal_line (told x)) text.old }
     ensures short { length (refusal_line (told x)) ≤ 53 }
 {
     let number = x.number();
     let place = x.place();
-    let bytes_needed = 13 + buffer::digit_count(number as usize) + buffer::digit_count(place);
+    let bytes_needed = 13 + buffer::digit_count(usize::from(number)) + buffer::digit_count(place);
     if text.len() < bytes_needed {
-        return LengthAnswer::Refused(Refusal::TooShort(bytes_needed));
+        return Err(Refusal::TooShort(bytes_needed));
     }
-    let length = write_refusal_line(number, place, text);
-    LengthAnswer::Length(length)
+    let mut line = Writer { text, at: 0 };
+    write_refusal_line(number, place, &mut line);
+    Ok(line.at)
 }

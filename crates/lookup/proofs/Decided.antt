@@ -1,12 +1,12 @@
 -- A question to a map is answered exactly when no refusal applies: the statement of specs/Acceptance. Assumes nothing.
 use Prim.Native.Nat.{ℕ, ◌<◌}
 use mathlib.Core.Path.{◌≡◌, sym}
-use mathlib.Core.Bool.{Bool, true, false, ◌&&◌}
+use mathlib.Core.Bool.{Bool, false, ◌&&◌}
 use mathlib.Core.List.{List}
 use mathlib.Core.Logic.{◌⊎◌, inl, inr, ⊎_elim}
-use native.Mathlib.Omega.{arith}
 use borrow.Author.Tests.{leb-true, leb-false}
 use lib.Dec.{leb}
+use Rattle.std.proofs.lemmas.Bool.{both_ways}
 use Rattle.refusal.specs.Outcome.{Told, accepted, refused}
 use Rattle.refusal.proofs.Steps.{never, same_value, test_accepted, test_refused}
 use Rattle.grid.specs.Map.{valid_grid, valid_map}
@@ -18,10 +18,6 @@ use Rattle.lookup.specs.Loss.{loss_answer}
 use Rattle.lookup.specs.Nearest.{nearest_point, nearest_answer}
 use Rattle.lookup.specs.Acceptance.{lowest_speed, highest_speed, highest_torque, QueryFault, not_a_map, speed_outside, torque_above, LossDecided, NearestDecided, QueriesDecided}
 use Rattle.lookup.proofs.Queries.{map_refused, speed_refused, torque_refused, loss_answered, answered_within}
-
--- a test that fails does not hold
-fails : {P : Type 0} (b : Bool) → b ≡ false → b ≡ true → P
-fails b e f = let z : ◌≡◌ {A = ℕ} 0 1 = cc in absurd (omega arith)
 
 module _ (grid : Grid) (entries : List ℕ) (p : Point) where
   abbrev low : Bool
@@ -45,7 +41,7 @@ module _ (grid : Grid) (entries : List ℕ) (p : Point) where
   unfolding loss_answer
   loss_refused_only told e =
       ⊎_elim
-      (λ a. not_a_map (λ rules. fails _ a.0 (map_of_lem grid entries rules)) a.1)
+      (λ a. not_a_map (λ rules. both_ways _ a.0 (map_of_lem grid entries rules)) a.1)
       (λ a.
       let rules = map_facts grid entries a.0 in
       ⊎_elim
@@ -76,7 +72,7 @@ module _ (grid : Grid) (p : Point) where
         (grid_facts grid a.0, sym (same_value _ q a.1));
     refused_for = λ broken. rw (grid_not grid broken);
     refused_only = λ told e.
-        ⊎_elim (λ a. (λ rules. fails _ a.0 (grid_of_lem grid rules), a.1)) (λ a. never told _ (sym a.1)) (test_refused (valid_grid grid) 22 0 (accepted (nearest_point grid p)) told e);
+        ⊎_elim (λ a. (λ rules. both_ways _ a.0 (grid_of_lem grid rules), a.1)) (λ a. never told _ (sym a.1)) (test_refused (valid_grid grid) 22 0 (accepted (nearest_point grid p)) told e);
   }
 
 pub queries_decided : QueriesDecided

@@ -4,7 +4,7 @@ pub mod Axes
 pub mod Weights
 pub mod Lines
 pub mod Queries
-pub mod Parts
+pub mod Cells
 pub mod Nearness
 pub mod Decided
 pub mod Examples

@@ -1,33 +1,32 @@
 -- Two cells that share a line have the same sum on it: so every cell that has a point gives the same sum there. Assumes nothing.
 use Prim.Native.Nat.{ℕ, ◌+◌, ◌-◌, ◌*◌, ◌≤◌, ◌<◌}
-use mathlib.Core.Path.{◌≡◌, refl, sym, ap, subst}
+use mathlib.Core.Path.{◌≡◌, refl, ap, subst}
 use mathlib.Core.List.{List}
 use mathlib.Core.Logic.{⊎_elim}
 use native.Mathlib.Omega.{arith}
 use native.Mathlib.Decide.{dec_lt}
 use native.Mathlib.Nat.{mul-pos, le_refl, mul-lt-mul_of_pos_left}
 use lib.ListN.{length, get_or}
-use Rattle.arith.specs.Fraction.{Fraction, ◌⊕◌, ◌⊗◌, ◌≼◌}
+use Rattle.arith.specs.Fraction.{Fraction, ◌⊕◌, ◌⊗◌, Same}
 use Rattle.arith.proofs.Fractions.{Is, is_itself, is_also, is_expanded, is_sum, is_product, at_most, at_most_itself, at_most_trans}
 use Rattle.cell.specs.Cell.{Point, Cell, Has, lower, upper, sum, index, corners}
 use Rattle.lookup.proofs.Axes.{Rising, RisingAxes, rise_lt}
 use Rattle.lookup.proofs.Weights.{is_weight, wide, tall}
 
--- the same value
-abbrev pub Equal : Fraction → Fraction → Type 0
-Equal x y = (x ≼ y) × (y ≼ x)
+same_is : {x y : Fraction} {p m d : ℕ} → Is x p m d → Is y p m d → Same x y
+same_is i j = (at_most i j (le_refl _), at_most j i (le_refl _))
 
-equal_is : {x y : Fraction} {p m d : ℕ} → Is x p m d → Is y p m d → Equal x y
-equal_is i j = (at_most i j (le_refl _), at_most j i (le_refl _))
+same_trans : (x y z : Fraction) → Same x y → Same y z → Same x z
+same_trans x y z h k = (at_most_trans x y z h.0 k.0, at_most_trans z y x k.1 h.1)
 
-equal_itself : (x : Fraction) → Equal x x
-equal_itself x = (at_most_itself x, at_most_itself x)
-
-equal_turned : (x y : Fraction) → Equal x y → Equal y x
-equal_turned x y h = (h.1, h.0)
-
-equal_trans : (x y z : Fraction) → Equal x y → Equal y z → Equal x z
-equal_trans x y z h k = (at_most_trans x y z h.0 k.0, at_most_trans z y x k.1 h.1)
+-- fractions that are the same at each two indices of which the first is lower are so at any two
+any_two : (f : ℕ → Fraction) (P : ℕ → Type 0) → ((i j : ℕ) → i < j → P i → P j → Same (f i) (f j)) → (i j : ℕ) → P i → P j → Same (f i) (f j)
+any_two f P up i j a b = go (dec_lt i j) (dec_lt j i)
+  where
+    go : Dec (i < j) → Dec (j < i) → Same (f i) (f j)
+    go (yes l) t = up i j l a b
+    go (no l) (yes t) = let h = up j i t b a in (h.1, h.0)
+    go (no l) (no t) = let e : i ≡ j = omega arith in rw e (at_most_itself (f j), at_most_itself (f j))
 
 -- ---- neighbouring cells
 
@@ -83,7 +82,7 @@ module _ (speeds torques : List ℕ) (axes : RisingAxes speeds torques) (p : Poi
   unfoldable sum_at : ℕ → ℕ → Fraction
   sum_at i j = sum speeds torques p (cell i j) (corners F (cell i j))
 
-  next_speed : (i j : ℕ) → Has speeds torques p (cell i j) → Has speeds torques p (cell (i + 1) j) → p.speed ≡ 10 * get_or speeds (i + 1) 0 → Equal (sum_at i j) (sum_at (i + 1) j)
+  next_speed : (i j : ℕ) → Has speeds torques p (cell i j) → Has speeds torques p (cell (i + 1) j) → p.speed ≡ 10 * get_or speeds (i + 1) 0 → Same (sum_at i j) (sum_at (i + 1) j)
   unfolding sum_at sum index corners
   next_speed i j h h' e =
       let u = F (i + 1) j in
@@ -96,7 +95,7 @@ module _ (speeds torques : List ℕ) (axes : RisingAxes speeds torques) (p : Poi
       let Dpos : 0 < D = mul-pos high pos in
       let iu : Is u (u.plus * v.den) (u.minus * v.den) d = is_expanded v.den d pos refl (is_itself u) in
       let iv : Is v (v.plus * u.den) (v.minus * u.den) d = is_expanded u.den d pos (omega arith) (is_itself v) in
-      equal_is
+      same_is
       (upper_speed
       (zero_term (F i j) D Dpos (no_speed _ _ _ (omega arith) (is_weight speeds torques axes p (cell i j) h lower lower)))
       (zero_term (F i (j + 1)) D Dpos (no_speed _ _ _ (omega arith) (is_weight speeds torques axes p (cell i j) h lower upper)))
@@ -108,7 +107,7 @@ module _ (speeds torques : List ℕ) (axes : RisingAxes speeds torques) (p : Poi
       (zero_term (F (i + 1 + 1) j) D Dpos (no_speed _ _ _ (omega arith) (is_weight speeds torques axes p (cell (i + 1) j) h' upper lower)))
       (zero_term (F (i + 1 + 1) (j + 1)) D Dpos (no_speed _ _ _ (omega arith) (is_weight speeds torques axes p (cell (i + 1) j) h' upper upper))))
 
-  next_torque : (i j : ℕ) → Has speeds torques p (cell i j) → Has speeds torques p (cell i (j + 1)) → p.torque ≡ 100 * get_or torques (j + 1) 0 → Equal (sum_at i j) (sum_at i (j + 1))
+  next_torque : (i j : ℕ) → Has speeds torques p (cell i j) → Has speeds torques p (cell i (j + 1)) → p.torque ≡ 100 * get_or torques (j + 1) 0 → Same (sum_at i j) (sum_at i (j + 1))
   unfolding sum_at sum index corners
   next_torque i j h h' e =
       let u = F i (j + 1) in
@@ -122,7 +121,7 @@ module _ (speeds torques : List ℕ) (axes : RisingAxes speeds torques) (p : Poi
       let up : 100 * get_or torques j 0 ≤ p.torque = omega (arith, tall speeds torques axes p (cell i j) h) in
       let iu : Is u (u.plus * v.den) (u.minus * v.den) d = is_expanded v.den d pos refl (is_itself u) in
       let iv : Is v (v.plus * u.den) (v.minus * u.den) d = is_expanded u.den d pos (omega arith) (is_itself v) in
-      equal_is
+      same_is
       (upper_torque
       (zero_term (F i j) D Dpos (no_torque _ _ _ (omega arith) (omega arith) (is_weight speeds torques axes p (cell i j) h lower lower)))
       (is_product (all_torque _ _ _ X _ broad (omega arith) (omega arith) (is_weight speeds torques axes p (cell i j) h lower upper)) iu)
@@ -134,38 +133,19 @@ module _ (speeds torques : List ℕ) (axes : RisingAxes speeds torques) (p : Poi
       (is_product (all_torque _ _ _ X _ broad (omega arith) (omega (arith, h'.top)) (is_weight speeds torques axes p (cell i (j + 1)) h' upper lower)) iv)
       (zero_term (F (i + 1) (j + 1 + 1)) D Dpos (no_torque _ _ _ (omega arith) (omega arith) (is_weight speeds torques axes p (cell i (j + 1)) h' upper upper))))
 
-  to_speed : (i i' j : ℕ) → Has speeds torques p (cell i j) → Has speeds torques p (cell i' j) → Equal (sum_at i j) (sum_at i' j)
-  to_speed i i' j h h' = go (dec_lt i i') (dec_lt i' i)
-    where
-      -- i before i'
-      on : (i i' : ℕ) → Has speeds torques p (cell i j) → Has speeds torques p (cell i' j) → i < i' → Equal (sum_at i j) (sum_at i' j)
-      on i i' h h' l =
-          let n = neighbours speeds axes.speeds 10 p.speed (omega arith) i i' h'.speed_in h.upto h'.from l in
-          let e = n.0 in
-          subst (λ k. Equal (sum_at i j) (sum_at k j)) (sym e) (next_speed i j h (subst (λ k. Has speeds torques p (cell k j)) e h') n.1)
+  to_speed : (j i i' : ℕ) → Has speeds torques p (cell i j) → Has speeds torques p (cell i' j) → Same (sum_at i j) (sum_at i' j)
+  to_speed j = any_two (λ i. sum_at i j) (λ i. Has speeds torques p (cell i j)) (λ i i' l h h'.
+      let n = neighbours speeds axes.speeds 10 p.speed (omega arith) i i' h'.speed_in h.upto h'.from l in
+      rw n.0 (next_speed i j h (subst (λ k. Has speeds torques p (cell k j)) n.0 h') n.1))
 
-      go : Dec (i < i') → Dec (i' < i) → Equal (sum_at i j) (sum_at i' j)
-      go (yes l) t = on i i' h h' l
-      go (no l) (yes t) = equal_turned (sum_at i' j) (sum_at i j) (on i' i h' h t)
-      go (no l) (no t) = let e : i ≡ i' = omega arith in subst (λ k. Equal (sum_at i j) (sum_at k j)) e (equal_itself (sum_at i j))
-
-  to_torque : (i j j' : ℕ) → Has speeds torques p (cell i j) → Has speeds torques p (cell i j') → Equal (sum_at i j) (sum_at i j')
-  to_torque i j j' h h' = go (dec_lt j j') (dec_lt j' j)
-    where
-      on : (j j' : ℕ) → Has speeds torques p (cell i j) → Has speeds torques p (cell i j') → j < j' → Equal (sum_at i j) (sum_at i j')
-      on j j' h h' l =
-          let b : 100 * get_or torques j' 0 ≤ p.torque = ⊎_elim (λ a. a) (λ e. absurd (omega arith)) h'.bottom in
-          let n = neighbours torques axes.torques 100 p.torque (omega arith) j j' h'.torque_in h.top b l in
-          let e = n.0 in
-          subst (λ k. Equal (sum_at i j) (sum_at i k)) (sym e) (next_torque i j h (subst (λ k. Has speeds torques p (cell i k)) e h') n.1)
-
-      go : Dec (j < j') → Dec (j' < j) → Equal (sum_at i j) (sum_at i j')
-      go (yes l) t = on j j' h h' l
-      go (no l) (yes t) = equal_turned (sum_at i j') (sum_at i j) (on j' j h' h t)
-      go (no l) (no t) = let e : j ≡ j' = omega arith in subst (λ k. Equal (sum_at i j) (sum_at i k)) e (equal_itself (sum_at i j))
+  to_torque : (i j j' : ℕ) → Has speeds torques p (cell i j) → Has speeds torques p (cell i j') → Same (sum_at i j) (sum_at i j')
+  to_torque i = any_two (sum_at i) (λ j. Has speeds torques p (cell i j)) (λ j j' l h h'.
+      let b : 100 * get_or torques j' 0 ≤ p.torque = ⊎_elim (λ a. a) (λ e. absurd (omega arith)) h'.bottom in
+      let n = neighbours torques axes.torques 100 p.torque (omega arith) j j' h'.torque_in h.top b l in
+      rw n.0 (next_torque i j h (subst (λ k. Has speeds torques p (cell i k)) n.0 h') n.1))
 
   -- every two cells that have the point give the same sum
-  pub same_sum : (k k' : Cell) → Has speeds torques p k → Has speeds torques p k' → Equal (sum speeds torques p k (corners F k)) (sum speeds torques p k' (corners F k'))
+  pub same_sum : (k k' : Cell) → Has speeds torques p k → Has speeds torques p k' → Same (sum speeds torques p k (corners F k)) (sum speeds torques p k' (corners F k'))
   unfolding sum_at
   same_sum k k' h h' =
       let between : Has speeds torques p (cell k'.speed k.torque) = record {
@@ -176,6 +156,6 @@ module _ (speeds torques : List ℕ) (axes : RisingAxes speeds torques) (p : Poi
         bottom = h.bottom;
         top = h.top;
       } in
-      equal_trans (sum_at k.speed k.torque) (sum_at k'.speed k.torque) (sum_at k'.speed k'.torque)
-      (to_speed k.speed k'.speed k.torque h between)
+      same_trans (sum_at k.speed k.torque) (sum_at k'.speed k.torque) (sum_at k'.speed k'.torque)
+      (to_speed k.torque k.speed k'.speed h between)
       (to_torque k'.speed k.torque k'.torque between h')

@@ -1,67 +1,26 @@
--- Laws of `last_up_to`, the greatest index at which a test holds. Assumes nothing.
-use Prim.Native.Nat.{ℕ, zero, suc, ◌+◌, ◌-◌, ◌≤◌, ◌<◌}
-use mathlib.Core.Path.{◌≡◌, refl}
-use mathlib.Core.Bool.{Bool, true, false, cond}
-use native.Mathlib.Numerals.{add-one}
-use native.Mathlib.Omega.{arith}
+-- What `last_up_to` finds: the last index at which a test holds. Assumes nothing.
+use Rattle.std.proofs.Common.{◌≡◌, ℕ, zero, suc, ◌≤◌, ◌<◌, Bool, true, false, cond, refl, arith}
 use native.Mathlib.Decide.{dec_lt}
 use Rattle.lookup.specs.Loss.{last_up_to}
 
--- ---- one step of the search downwards
+-- i is the last index from 1 to n at which the test holds, or 0
+pub record IsLast (test : ℕ → Bool) (n i : ℕ) : Type 0 where
+  pub at_most : i ≤ n
+  pub holds : 0 < i → test i ≡ true
+  pub fails : (k : ℕ) → i < k → k ≤ n → test k ≡ false
 
-pub last_here : (test : ℕ → Bool) (i : ℕ) → 0 < i → test i ≡ true → last_up_to test i ≡ i
+pub last_found : (test : ℕ → Bool) (n : ℕ) → IsLast test n (last_up_to test n)
 unfolding last_up_to
-last_here test zero l e = absurd (omega arith)
-last_here test (suc i) l e = rw e
-
-pub last_down : (test : ℕ → Bool) (i : ℕ) → 0 < i → test i ≡ false → last_up_to test (i - 1) ≡ last_up_to test i
-unfolding last_up_to
-last_down test zero l e = absurd (omega arith)
-last_down test (suc i) l e = let s : suc i - 1 ≡ i = omega arith in rw (s, e)
-
-pub last_done : (test : ℕ → Bool) (i : ℕ) → i ≤ 0 → last_up_to test i ≡ 0
-unfolding last_up_to
-last_done test i l = let e : i ≡ 0 = omega arith in rw e
-
--- ---- the index found
-
-pub last_le : (test : ℕ → Bool) (n : ℕ) → last_up_to test n ≤ n
-unfolding last_up_to
-last_le test zero = omega arith
-last_le test (suc n) = go (test (suc n)) (last_le test n)
+last_found test zero = record { at_most = omega arith; holds = λ l. absurd (omega arith); fails = λ k a b. absurd (omega arith) }
+last_found test (suc n) = go (test (suc n)) refl (last_found test n)
   where
-    go : (b : Bool) → last_up_to test n ≤ n → cond b (suc n) (last_up_to test n) ≤ suc n
-    go true h = omega arith
-    go false h = omega arith
-
--- the test holds there if it holds at 0
-pub last_holds : (test : ℕ → Bool) (n : ℕ) → test 0 ≡ true → test (last_up_to test n) ≡ true
-unfolding last_up_to
-last_holds test zero e = e
-last_holds test (suc n) e = go (test (suc n)) refl (last_holds test n e)
-  where
-    go : (b : Bool) → test (suc n) ≡ b → test (last_up_to test n) ≡ true → test (cond b (suc n) (last_up_to test n)) ≡ true
-    go true h i = h
-    go false h i = i
-
--- it fails just above
-pub last_next : (test : ℕ → Bool) (n : ℕ) → last_up_to test n < n → test (last_up_to test n + 1) ≡ false
-unfolding last_up_to
-last_next test zero l = absurd (omega arith)
-last_next test (suc n) l = go (test (suc n)) refl l (last_next test n)
-  where
-    go : (b : Bool) → test (suc n) ≡ b → cond b (suc n) (last_up_to test n) < suc n → (last_up_to test n < n → test (last_up_to test n + 1) ≡ false) → test (cond b (suc n) (last_up_to test n) + 1) ≡ false
-    go true h m below = absurd (omega arith)
-    go false h m below = step (dec_lt (last_up_to test n) n)
+    go : (b : Bool) → test (suc n) ≡ b → IsLast test n (last_up_to test n) → IsLast test (suc n) (cond b (suc n) (last_up_to test n))
+    go true e h = record { at_most = omega arith; holds = λ l. e; fails = λ k a b. absurd (omega arith) }
+    go false e h = record { at_most = omega arith; holds = h.holds; fails = λ k a b. fails k a b (dec_lt n k) }
       where
-        step : Dec (last_up_to test n < n) → test (last_up_to test n + 1) ≡ false
-        step (yes q) = below q
-        step (no q) = let e : last_up_to test n + 1 ≡ suc n = omega arith in rw e h
+        fails : (k : ℕ) → last_up_to test n < k → k ≤ suc n → Dec (n < k) → test k ≡ false
+        fails k a b (yes l) = let s : k ≡ suc n = omega arith in rw (s, e)
+        fails k a b (no l) = h.fails k a (omega arith)
 
--- none is found where the test fails everywhere above 0
-pub last_none : (test : ℕ → Bool) (n : ℕ) → ((k : ℕ) → k < n → test (k + 1) ≡ false) → last_up_to test n ≡ 0
-unfolding last_up_to
-last_none test zero h = refl
-last_none test (suc n) h =
-    let e : test (suc n) ≡ false = rw add-one at (h n (omega arith)) in
-    rw e (last_none test n (λ k l. h k (omega arith)))
+pub last_unique : (test : ℕ → Bool) (n i j : ℕ) → IsLast test n i → IsLast test n j → i ≡ j
+last_unique test n i j a b = grind (arith, a.holds, a.fails j, b.holds, b.fails i)

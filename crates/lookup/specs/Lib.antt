@@ -1,4 +1,3 @@
 pub mod Loss
 pub mod Nearest
-pub mod Answers
 pub mod Acceptance

@@ -4,6 +4,7 @@ use Rattle.refusal.specs.Outcome.{Outcome, accepted, ◌>>=◌, require}
 use Rattle.grid.specs.Map.{speeds_of, torques_of, valid_grid}
 use Rattle.grid.specs.declared.Grid.{Grid}
 use Rattle.cell.specs.Cell.{Point}
+pub use Rattle.lookup.specs.declared.GridPoint.{GridPoint}
 
 -- how far a number is from a value; one of the two differences is 0
 abbrev pub distance : ℕ → ℕ → ℕ
@@ -19,11 +20,6 @@ nearest_index ns scale v (suc i) =
 -- the nearest axis number; speeds count ten tenths of rpm each, torques a hundred hundredths of Nm
 unfoldable pub nearest_number : List ℕ → (scale v : ℕ) → ℕ
 nearest_number ns scale v = get_or ns (nearest_index ns scale v (length ns)) 0
-
--- two axis numbers: a speed in rpm and a torque in Nm
-pub record GridPoint : Type 0 where
-  pub speed : ℕ
-  pub torque : ℕ
 
 -- the nearest point of a grid
 abbrev pub nearest_point : Grid → Point → GridPoint

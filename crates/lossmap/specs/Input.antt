@@ -1,15 +1,7 @@
--- What a read of standard input tells.
-use Rattle.std.specs.Prelude.{ℕ, min, Result, Ok, Err}
-use Rattle.std.specs.declared.io.Error.{Error}
-use Rattle.lossmap.specs.declared.Input.{Input}
-use Rattle.lossmap.specs.declared.Input.TheVariants.{Bytes, Failed}
+-- What reading the input promises.
+use Rattle.std.specs.Prelude.{◌≡◌, ℕ, List, take, ⊤, Option, Some, None}
 
--- from the answer of a read and the bytes that it could put: it failed where the answer is an error
-abbrev pub input_of : Result ℕ Error → (most : ℕ) → Input
-input_of (Ok n) most = Bytes (min n most)
-input_of (Err e) most = Failed
-
--- how many bytes it says, none where it failed
-abbrev pub bytes_read : Input → ℕ
-bytes_read (Bytes n) = n
-bytes_read Failed = 0
+-- What was read of an input whose bytes are known: all of them, or as many as there is room for. So a read that fails is not taken for the end.
+abbrev pub IsInput : Option (List ℕ) → (room : ℕ) → List ℕ → Type 0
+IsInput None room read = ⊤
+IsInput (Some bytes) room read = read ≡ take room bytes

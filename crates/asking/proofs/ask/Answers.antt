@@ -1,9 +1,9 @@
 -- `asking::ask` meets its contract. Assumes nothing.
 use Rattle.layout.specs.Rules.{AreBytes}
-use Rattle.asking.proofs.Asking.{asks}
+use Rattle.accuracy.proofs.Demand.{demand3}
 use Rattle.asking.proofs.ask.Goals as goal
 
-pub returns : goal.returns
-returns c =
+pub returns-in-Accepted : goal.returns-in-Accepted
+returns-in-Accepted c =
     let are_bytes : AreBytes c.args.«data».now = λ i h. (c.type_inv.data i).fits in
-    asks _ _ _ _ c.build-made.result _ are_bytes c.build-made.ensures c.loss-loss.ensures
+    record { builds = rw (← c.in-Accepted.is) c.build-built.ensures; asked = c.loss-loss.ensures; accurate = demand3 _ _ _ _ are_bytes c.build-built.ensures c.in-Accepted.is }

@@ -1,13 +1,22 @@
 -- `buffer::digit_count` meets its contract. Assumes nothing.
-use native.Mathlib.Omega.{arith}
-use Rattle.buffer.proofs.Digits.{count_four}
-use borrow.Author.Rules.{rules}
+use Rattle.std.proofs.Common.{rules, sym, arith, add-one}
+use Rattle.buffer.proofs.Digits.{count_one, count_is}
 use Rattle.buffer.proofs.digit_count.Goals as goal
 
-pub returns-then-n-lt10000 : goal.returns-then-n-lt10000
-returns-then-n-lt10000 c = (c.short_digit_count.ensures.0, search rules)
+pub returns-in-0-to-9 : goal.returns-in-0-to-9
+returns-in-0-to-9 c = (sym (count_one _ (omega arith)), search rules)
 
-pub returns-then-n-lt100000000 : goal.returns-then-n-lt100000000
-returns-then-n-lt100000000 c =
-    let n = c.args.n in
-    omega (arith, count_four n (omega arith))
+pub returns-in-10-to-99 : goal.returns-in-10-to-99
+returns-in-10-to-99 c = (sym (count_is 1 _ (omega arith) (omega arith)), search rules)
+
+pub returns-in-100-to-999 : goal.returns-in-100-to-999
+returns-in-100-to-999 c = (sym (count_is 2 _ (omega arith) (omega arith)), search rules)
+
+pub returns-in-1000-to-9999 : goal.returns-in-1000-to-9999
+returns-in-1000-to-9999 c = (sym (count_is 3 _ (omega arith) (omega arith)), search rules)
+
+pub returns-in-10000-to-99999 : goal.returns-in-10000-to-99999
+returns-in-10000-to-99999 c = (sym (count_is 4 _ (omega arith) (omega arith)), search rules)
+
+pub returns-in_default : goal.returns-in_default
+returns-in_default c = (rw add-one (sym (count_is c.ilog10.result _ c.ilog10.ensures.power_le (omega (arith, c.ilog10.ensures.next_power_gt)))), search rules)

@@ -1,23 +1,19 @@
 -- `encoding::write_axle` meets its contract. Assumes nothing.
-use native.Mathlib.Omega.{arith}
-use Rattle.buffer.proofs.Places.{written_then}
-use mathlib.Core.List.{[], ◌∷◌}
+use Rattle.std.proofs.Common.{[], ◌∷◌, arith}
+use Rattle.buffer.proofs.Appending.{appends_then}
 use Rattle.layout.specs.Layout.{encoded}
 use Rattle.layout.proofs.FieldBytes.{length_field_bytes}
+use Rattle.encoding.proofs.Encoded.{room_after}
 use Rattle.encoding.proofs.write_axle.Goals as goal
 
-pub write_byte_field-ratio_at-requires : goal.write_byte_field-ratio_at-requires
-write_byte_field-ratio_at-requires c = omega (arith, length_field_bytes 1 (c.args.kind ∷ []), c.requires)
+pub write_byte_field-requires-2 : goal.write_byte_field-requires-2
+write_byte_field-requires-2 c = room_after c.write_byte_field.ensures 4 (omega (arith, length_field_bytes 1 (c.args.kind ∷ []), c.requires))
 
 pub write_number_field-requires : goal.write_number_field-requires
 write_number_field-requires c =
-    (omega arith, omega (arith, length_field_bytes 1 (c.args.kind ∷ []), length_field_bytes 2 (c.args.line ∷ []), c.requires))
+    let second = room_after c.write_byte_field.ensures 9 (omega (arith, length_field_bytes 1 (c.args.kind ∷ []), c.requires)) in
+    (omega arith, room_after c.write_byte_field-2.ensures 5 (omega (arith, length_field_bytes 2 (c.args.line ∷ []), second)))
 
 pub returns : goal.returns
 unfolding encoded
-returns c =
-    let kind = length_field_bytes 1 (c.args.kind ∷ []) in
-    let line = length_field_bytes 2 (c.args.line ∷ []) in
-    written_then c.write_byte_field-line_at.ensures
-    (written_then c.write_byte_field-ratio_at.ensures c.write_number_field.ensures (omega (arith, c.requires)))
-    (omega (arith, c.requires))
+returns c = appends_then c.write_byte_field.ensures (appends_then c.write_byte_field-2.ensures c.write_number_field.ensures)

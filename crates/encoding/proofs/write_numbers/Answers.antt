@@ -1,22 +1,23 @@
--- `encoding::write_numbers` meets its contract. Assumes nothing.
-use mathlib.Core.Path.{refl}
+-- `encoding::write_numbers` meets its contract. The invariant: the numbers passed are written. Assumes nothing.
+use Rattle.std.proofs.Common.{◌≡◌, ◌<◌, arith, length, refl}
 use Rattle.layout.specs.Layout.{two_bytes}
-use Rattle.encoding.proofs.Encoded.{none_encoded, room_for_one, one_encoded, all_encoded}
+use Rattle.buffer.proofs.Appending.{appends_none, appends_next, room_next}
+use Rattle.encoding.proofs.Encoded.{bytes_at, length_encoded, all_encoded}
 use Rattle.encoding.proofs.write_numbers.Goals as goal
 
-pub loop-i-init : goal.loop-i-init
-loop-i-init c = none_encoded two_bytes 2 (λ n. refl) _ _ _
+pub loop-number-init : goal.loop-number-init
+loop-number-init c = appends_none (bytes_at two_bytes c.args.numbers.now) _ (omega arith)
 
-pub write_pair-next-requires : goal.write_pair-next-requires
-write_pair-next-requires c =
-    room_for_one two_bytes 2 (λ n. refl) _ _ _ c.loop-i.invariant c.loop-i-test.true c.requires
+pub write_pair-requires : goal.write_pair-requires
+write_pair-requires c =
+    let more : c.loop-number.number-index < length c.args.numbers.now = omega arith in
+    room_next _ _ c.loop-number.invariant (length c.args.numbers.now) more
+    (omega (arith, length_encoded two_bytes 2 (λ n. refl) c.args.numbers.now (length c.args.numbers.now)))
 
-pub loop-i-preserved : goal.loop-i-preserved
-loop-i-preserved c =
-    one_encoded two_bytes 2 (λ n. refl) _ _ _ c.loop-i.invariant c.loop-i-test.true c.requires c.write_pair-next.ensures
-
-pub shape_of-file : goal.shape_of-file
-shape_of-file c = c.loop-i.invariant.kept
+pub loop-number-preserved : goal.loop-number-preserved
+loop-number-preserved c = appends_next _ _ c.loop-number.invariant c.write_pair.ensures
 
 pub returns : goal.returns
-returns c = all_encoded two_bytes 2 (λ n. refl) _ _ _ c.loop-i.invariant c.loop-i-test.false
+returns c =
+    let done : c.loop-number.number-index ≡ length c.args.numbers.now = omega arith in
+    all_encoded two_bytes _ (rw done at c.loop-number.invariant)

@@ -1,12 +1,9 @@
--- `encoding::write_numbers` meets its contract. Assumes nothing.
-use Prim.Native.Nat.{◌-◌}
-use lib.ListN.{length}
+-- `encoding::write_numbers` meets its contract. The invariant: the numbers passed are written. Assumes nothing.
+use Rattle.grid.specs.Lists.{joined}
 use Rattle.layout.specs.Layout.{two_bytes}
-use Rattle.encoding.proofs.Encoded.{EncodedSoFar}
+use Rattle.buffer.specs.Written.{Appends}
+use Rattle.encoding.proofs.Encoded.{bytes_at}
 use Rattle.encoding.proofs.write_numbers.Given as goal
 
-abbrev pub invariant-loop-i : goal.invariant-loop-i
-invariant-loop-i l = EncodedSoFar two_bytes l.numbers l.initial.file l.at l.file l.next l.i
-
-abbrev pub decreases-loop-i : goal.decreases-loop-i
-decreases-loop-i l = length l.numbers - l.i
+abbrev pub invariant-loop-number : goal.invariant-loop-number
+invariant-loop-number l = Appends (joined (bytes_at two_bytes l.numbers) l.number-index) l.initial.file l.file

@@ -1,22 +1,23 @@
--- `encoding::write_torques` meets its contract. Assumes nothing.
-use mathlib.Core.Path.{refl}
+-- `encoding::write_torques` meets its contract. The invariant: the numbers passed are written. Assumes nothing.
+use Rattle.std.proofs.Common.{◌≡◌, ◌<◌, arith, length, refl}
 use Rattle.layout.specs.Layout.{four_bytes}
-use Rattle.encoding.proofs.Encoded.{none_encoded, room_for_one, one_encoded, all_encoded}
+use Rattle.buffer.proofs.Appending.{appends_none, appends_next, room_next}
+use Rattle.encoding.proofs.Encoded.{bytes_at, length_encoded, all_encoded}
 use Rattle.encoding.proofs.write_torques.Goals as goal
 
-pub loop-i-init : goal.loop-i-init
-loop-i-init c = none_encoded four_bytes 4 (λ n. refl) _ _ _
+pub loop-torque-init : goal.loop-torque-init
+loop-torque-init c = appends_none (bytes_at four_bytes c.args.torques.now) _ (omega arith)
 
-pub write_four-next-requires : goal.write_four-next-requires
-write_four-next-requires c =
-    room_for_one four_bytes 4 (λ n. refl) _ _ _ c.loop-i.invariant c.loop-i-test.true c.requires
+pub write_four-requires : goal.write_four-requires
+write_four-requires c =
+    let more : c.loop-torque.torque-index < length c.args.torques.now = omega arith in
+    room_next _ _ c.loop-torque.invariant (length c.args.torques.now) more
+    (omega (arith, length_encoded four_bytes 4 (λ n. refl) c.args.torques.now (length c.args.torques.now)))
 
-pub loop-i-preserved : goal.loop-i-preserved
-loop-i-preserved c =
-    one_encoded four_bytes 4 (λ n. refl) _ _ _ c.loop-i.invariant c.loop-i-test.true c.requires c.write_four-next.ensures
-
-pub shape_of-file : goal.shape_of-file
-shape_of-file c = c.loop-i.invariant.kept
+pub loop-torque-preserved : goal.loop-torque-preserved
+loop-torque-preserved c = appends_next _ _ c.loop-torque.invariant c.write_four.ensures
 
 pub returns : goal.returns
-returns c = all_encoded four_bytes 4 (λ n. refl) _ _ _ c.loop-i.invariant c.loop-i-test.false
+returns c =
+    let done : c.loop-torque.torque-index ≡ length c.args.torques.now = omega arith in
+    all_encoded four_bytes _ (rw done at c.loop-torque.invariant)

@@ -1,12 +1,9 @@
--- `encoding::write_torques` meets its contract. Assumes nothing.
-use Prim.Native.Nat.{◌-◌}
-use lib.ListN.{length}
+-- `encoding::write_torques` meets its contract. The invariant: the numbers passed are written. Assumes nothing.
+use Rattle.grid.specs.Lists.{joined}
 use Rattle.layout.specs.Layout.{four_bytes}
-use Rattle.encoding.proofs.Encoded.{EncodedSoFar}
+use Rattle.buffer.specs.Written.{Appends}
+use Rattle.encoding.proofs.Encoded.{bytes_at}
 use Rattle.encoding.proofs.write_torques.Given as goal
 
-abbrev pub invariant-loop-i : goal.invariant-loop-i
-invariant-loop-i l = EncodedSoFar four_bytes l.torques l.initial.file l.at l.file l.next l.i
-
-abbrev pub decreases-loop-i : goal.decreases-loop-i
-decreases-loop-i l = length l.torques - l.i
+abbrev pub invariant-loop-torque : goal.invariant-loop-torque
+invariant-loop-torque l = Appends (joined (bytes_at four_bytes l.torques) l.torque-index) l.initial.file l.file

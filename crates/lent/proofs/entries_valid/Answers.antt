@@ -1,20 +1,20 @@
 -- `lent::entries_valid` meets its contract. Assumes nothing.
-use mathlib.Core.Path.{sym}
+use Rattle.std.proofs.Common.{length, arith}
 use borrow.Author.Tests.{le-leb, lt-leb}
 use Rattle.grid.specs.Map.{valid_entries}
-use Rattle.lent.proofs.Bound.{joined_small}
+use Rattle.lent.proofs.Bound.{valid_tells}
 use Rattle.lent.proofs.entries_valid.Goals as goal
 
-pub returns-then-entries-count : goal.returns-then-entries-count
+pub returns-in_default : goal.returns-in_default
 unfolding valid_entries
-returns-then-entries-count c = rw (lt-leb _ _ c.if-entries-count.true)
+returns-in_default c = rw (lt-leb c.args.count (length c.args.entries.now) (grind (arith, c.in_default.ensures.lookup)))
 
 pub returns-then-joined-le-LARGEST_ENTRY : goal.returns-then-joined-le-LARGEST_ENTRY
-unfolding valid_entries
 returns-then-joined-le-LARGEST_ENTRY c =
-    rw (le-leb _ _ c.if-entries-count.false)
-    (sym (joined_small c.args.entries.now _ _ _ c.joined.ensures c.if-joined-le-LARGEST_ENTRY.true))
+    let s = c.in-Some.ensures.lookup.0 in
+    valid_tells _ c.in-Some.entries.now _ s.1 s.2 _ (λ _ k l. omega (arith, c.joined.ensures k l), λ _. le-leb _ _ c.if-joined-le-LARGEST_ENTRY.true)
 
-pub returns : goal.returns
-unfolding valid_entries
-returns c = rw (le-leb _ _ c.if-entries-count.false) c.none_too_large.ensures
+pub returns-else-joined-le-LARGEST_ENTRY : goal.returns-else-joined-le-LARGEST_ENTRY
+returns-else-joined-le-LARGEST_ENTRY c =
+    let s = c.in-Some.ensures.lookup.0 in
+    valid_tells _ c.in-Some.entries.now _ s.1 s.2 _ c.none_too_large.ensures

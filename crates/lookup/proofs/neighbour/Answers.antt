@@ -1,43 +1,18 @@
--- `lookup::neighbour` meets its contract. The loop's invariant: the index that is looked for is the last up to i at which the test holds. The measure is i. Assumes nothing.
-use mathlib.Core.Path.{sym, ◌∙◌}
-use Prim.Native.Nat.{◌<◌}
-use native.Mathlib.Nat.{le_refl, le_of_lt, mul-le-mul, lt_of_le_of_lt}
-use native.Mathlib.Omega.{arith}
-use lib.Dec.{lit<}
-use lib.Seq.{length-take-le}
+-- `lookup::neighbour` meets its contract. Assumes nothing.
+use Rattle.std.proofs.Common.{◌≡◌, ℕ, ◌*◌, ◌-◌, ◌<◌, ◌≤◌, Option, Some, None, List, length, take, unwrap_or, MatchOption, EachIndex, slice_index, refl, sym, ◌∙◌, arith}
+use Rattle.std.proofs.lemmas.Grind.{common_steps}
 use Rattle.lookup.specs.Loss.{neighbour}
-use Rattle.lookup.proofs.Search.{last_here, last_down, last_done}
-use Rattle.lookup.proofs.Axes.{at_or_below, above_value}
+use Rattle.lookup.proofs.Axes.{neighbour_is}
 use Rattle.lookup.proofs.neighbour.Goals as goal
 
-pub overflow_sub-i : goal.overflow_sub-i
-overflow_sub-i c = omega arith
-
-pub loop-i-init : goal.loop-i-init
-unfolding neighbour
-loop-i-init c = (le_refl _, rw (length-take-le _ _ c.requires.1))
-
-pub number-requires : goal.number-requires
-number-requires c = omega arith
-
-pub overflow_mul-scale : goal.overflow_mul-scale
-overflow_mul-scale c = record { fits = lt_of_le_of_lt (mul-le-mul c.requires.2 (le_of_lt c.number.ensures.1)) (lit< tt) }
-
-pub returns-then-scale-number : goal.returns-then-scale-number
-returns-then-scale-number c =
-    let h : c.loop-i.i < c.args.count = omega arith in
-    sym (last_here _ _ c.loop-i-test.true (at_or_below _ _ _ _ _ _ h c.number.ensures.0 c.if-scale-number.true)) ∙ c.loop-i.invariant.1
-
-pub overflow_sub-i-in-loop-i : goal.overflow_sub-i-in-loop-i
-overflow_sub-i-in-loop-i c = omega arith
-
-pub loop-i-smaller : goal.loop-i-smaller
-loop-i-smaller c = omega arith
-
-pub loop-i-preserved : goal.loop-i-preserved
-loop-i-preserved c =
-    let h : c.loop-i.i < c.args.count = omega arith in
-    (omega arith, last_down _ _ c.loop-i-test.true (above_value _ _ _ _ _ _ h c.number.ensures.0 c.if-scale-number.false) ∙ c.loop-i.invariant.1)
+-- by what was found in all but the last of the numbers
+found : (ns xs : List ℕ) (scale v : ℕ) (r : Option ℕ) → 2 ≤ length ns → xs ≡ take (length ns - 1) ns →
+    MatchOption r (EachIndex xs (λ k. v < scale * slice_index xs k)) (λ i. (i < length xs) × (scale * slice_index xs i ≤ v) × ((k : ℕ) → i < k → k < length xs → v < scale * slice_index xs k)) →
+    neighbour ns scale v ≡ unwrap_or r 0
+found ns xs scale v None two e h =
+    neighbour_is ns scale v 0 (omega arith) (λ l. absurd (omega arith)) (λ k a b. let m = h k (grind (arith, common_steps)) in grind (arith, common_steps))
+found ns xs scale v (Some i) two e h =
+    neighbour_is ns scale v i (grind (arith, common_steps)) (λ l. grind (arith, common_steps)) (λ k a b. let m = h.2 k a (grind (arith, common_steps)) in grind (arith, common_steps))
 
 pub returns : goal.returns
-returns c = sym (last_done _ _ c.loop-i-test.false) ∙ c.loop-i.invariant.1
+returns c = c.unwrap_or.ensures ∙ sym (found c.args.numbers.now _ _ _ _ c.requires.two refl c.last_at_or_below.ensures)

@@ -1,0 +1,219 @@
+// What each kind of case is answered.
+use crate::case::{Case, Kind};
+use crate::print::Hexadecimal;
+use crate::{bytes, library, print};
+use component::Component;
+use grid::Grid;
+use numbers::Numbers;
+use refusal::Refusal;
+use std::io;
+use std::io::Write;
+
+// What may be lent, as it is before.
+static LENT_ENTRIES: [u32; 2048] = [0xA5A5_A5A5; 2048];
+
+static LENT_BYTES: [u8; 65_536] = [0xA5; 65_536];
+
+// So many torques of rows can be written.
+const MOST_ROWS: usize = 8192;
+
+// Why a case is not answered, or not to its end.
+#[derive(Drop)]
+enum Fault {
+    // It lends more than there is, a lent map or numbers are not whole, or its letter is none of the five.
+    NoCase,
+    Output(io::Error),
+}
+
+impl From<io::Error> for Fault {
+    fn from(error: io::Error) -> Fault {
+        Fault::Output(error)
+    }
+}
+
+pub fn write(out: &mut impl Write, case: &Case) -> io::Result<()> {
+    match write_whole(out, case) {
+        Ok(()) => Ok(()),
+        Err(Fault::NoCase) => writeln!(out, "no case"),
+        Err(Fault::Output(error)) => Err(error),
+    }
+}
+
+fn write_whole(out: &mut impl Write, case: &Case) -> Result<(), Fault> {
+    match case.kind.ok_or(Fault::NoCase)? {
+        Kind::Read => write_reading(out, case.body)?,
+        Kind::Program => write_report(out, case.body)?,
+        Kind::Build => write_build(out, case)?,
+        Kind::Map => write_map(out, case)?,
+        Kind::Write => write_file(out, case)?,
+    }
+    Ok(())
+}
+
+// The numbers that data says.
+fn write_reading(out: &mut impl Write, data: &[u8]) -> io::Result<()> {
+    match library::read(data) {
+        Ok(component) => print::write_component(out, &component),
+        Err(refusal) => print::write_refusal(out, refusal),
+    }
+}
+
+// What the map program writes for data.
+fn write_report(out: &mut impl Write, data: &[u8]) -> io::Result<()> {
+    let mut entries = LENT_ENTRIES;
+    let mut text = LENT_BYTES;
+    let length = library::report(data, &mut entries, &mut text);
+    write_text(out, length, &text)
+}
+
+// The map of data, built in lent entries.
+fn write_build(out: &mut impl Write, case: &Case) -> Result<(), Fault> {
+    let mut entries = LENT_ENTRIES;
+    let lent = entries.get_mut(..case.entries).ok_or(Fault::NoCase)?;
+    match library::build(case.body, lent) {
+        Ok(grid) => {
+            let count = grid.speeds.count.saturating_mul(grid.torques.count);
+            write_kept(out, "entries", &entries, &LENT_ENTRIES, count)?;
+            write_again(out, case.body)?;
+            write_answers(out, case, grid, &entries[..case.entries])
+        }
+        Err(refusal) => {
+            print::write_refusal(out, refusal)?;
+            write_kept(out, "entries", &entries, &LENT_ENTRIES, 0)?;
+            Ok(())
+        }
+    }
+}
+
+// A map as a caller may lend it, whatever its numbers are.
+fn write_map(out: &mut impl Write, case: &Case) -> Result<(), Fault> {
+    let mut body = case.body;
+    let grid = bytes::next_grid(&mut body).ok_or(Fault::NoCase)?;
+    let mut entries = LENT_ENTRIES;
+    let all = bytes::decode(body, &mut entries).ok_or(Fault::NoCase)?;
+    let lent = all.get(..case.entries).ok_or(Fault::NoCase)?;
+    write_answers(out, case, grid, lent)
+}
+
+// A map's listing in the lent text, and the answers to the questions.
+fn write_answers(
+    out: &mut impl Write,
+    case: &Case,
+    grid: Grid,
+    entries: &[u32],
+) -> Result<(), Fault> {
+    let mut text = LENT_BYTES;
+    let lent = text.get_mut(..case.room).ok_or(Fault::NoCase)?;
+    let length = library::list(grid, entries, lent);
+    write_text(out, length, &text)?;
+    write_kept(out, "text", &text, &LENT_BYTES, length.unwrap_or(0))?;
+    for question in case.questions.chunks_exact(8) {
+        write_answer(out, grid, entries, question)?;
+    }
+    Ok(())
+}
+
+// The loss and the nearest point.
+fn write_answer(
+    out: &mut impl Write,
+    grid: Grid,
+    entries: &[u32],
+    mut question: &[u8],
+) -> Result<(), Fault> {
+    let speed = bytes::next_u32(&mut question).ok_or(Fault::NoCase)?;
+    let torque = bytes::next_u32(&mut question).ok_or(Fault::NoCase)?;
+    match library::loss(grid, entries, speed, torque) {
+        Ok(loss) => writeln!(out, "loss {loss}")?,
+        Err(refusal) => print::write_refusal(out, refusal)?,
+    }
+    match library::nearest(grid, speed, torque) {
+        Ok((speed, torque)) => writeln!(out, "nearest {speed} {torque}")?,
+        Err(refusal) => print::write_refusal(out, refusal)?,
+    }
+    Ok(())
+}
+
+// The text that was written, or the refusal.
+fn write_text(out: &mut impl Write, length: Result<usize, Refusal>, text: &[u8]) -> io::Result<()> {
+    match length {
+        Ok(length) => out.write_all(&text[..length.min(text.len())]),
+        Err(refusal) => print::write_refusal(out, refusal),
+    }
+}
+
+// Whether what was lent is as it was before, but for the first count.
+fn write_kept<T: PartialEq>(
+    out: &mut impl Write,
+    name: &str,
+    lent: &[T],
+    before: &[T],
+    count: usize,
+) -> io::Result<()> {
+    if lent.get(count..) == before.get(count..) {
+        writeln!(out, "{name} kept")
+    } else {
+        writeln!(out, "{name} changed")
+    }
+}
+
+// The file that is written from numbers in the lent bytes.
+fn write_file(out: &mut impl Write, case: &Case) -> Result<(), Fault> {
+    let mut body = case.body;
+    let numbers = bytes::next_numbers(&mut body).ok_or(Fault::NoCase)?;
+    let mut rows = [0; MOST_ROWS];
+    let torques = bytes::decode(body, &mut rows).ok_or(Fault::NoCase)?;
+    let mut file = LENT_BYTES;
+    let lent = file.get_mut(..case.room).ok_or(Fault::NoCase)?;
+    let length = library::write(numbers, torques, lent);
+    match length {
+        Ok(length) => {
+            let written = &file[..length.min(file.len())];
+            writeln!(out, "written {length}\n{}", Hexadecimal(written))?;
+        }
+        Err(refusal) => print::write_refusal(out, refusal)?,
+    }
+    write_kept(out, "file", &file, &LENT_BYTES, length.unwrap_or(0))?;
+    Ok(())
+}
+
+// Whether the numbers of data that was accepted, written again, are the same bytes.
+fn write_again(out: &mut impl Write, data: &[u8]) -> io::Result<()> {
+    match is_written_again(data) {
+        Some(true) => writeln!(out, "written again"),
+        _ => writeln!(out, "written otherwise"),
+    }
+}
+
+// In just the room that the data needs.
+fn is_written_again(data: &[u8]) -> Option<bool> {
+    let component = library::read(data).ok()?;
+    let row_bytes = data.get(component.rows.start..component.rows.end)?;
+    let mut rows = [0; MOST_ROWS];
+    let torques = bytes::decode(row_bytes, &mut rows)?;
+    let mut file = LENT_BYTES;
+    let lent = file.get_mut(..data.len())?;
+    let length = library::write(numbers_of(&component), torques, lent).ok()?;
+    Some(length == data.len() && &*lent == data)
+}
+
+fn numbers_of(component: &Component) -> Numbers {
+    let Component {
+        kind,
+        line,
+        ratio,
+        grid,
+        input,
+        output,
+        right,
+        ..
+    } = *component;
+    Numbers {
+        kind,
+        line,
+        ratio,
+        grid,
+        input,
+        output,
+        right,
+    }
+}
