@@ -30,7 +30,7 @@ fn run(rt: &HostRuntime) -> Result<(), &'static str> {
     let mut text = [0u8; 65536];
     let mut stdin = rt.stdin();
     let length = read_input(&mut stdin, &mut input).map_err(|_| "could not read standard input")?;
-    let count = report::program_output(&input, length, &mut entries, &mut text);
+    let count = report::program_output(&input[..length], &mut entries, &mut text);
     rt.stdout()
         .write_all(&text[..count])
         .map_err(|_| "could not write all of the answer")

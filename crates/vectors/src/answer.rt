@@ -1,11 +1,12 @@
 // What each kind of case is answered.
 use crate::case::{Case, Kind};
 use crate::print::Hexadecimal;
-use crate::{bytes, library, print};
+use crate::{bytes, print};
 use component::Component;
 use grid::Grid;
 use numbers::Numbers;
 use refusal::Refusal;
+use sensor::Sensor;
 use std::io;
 use std::io::Write;
 
@@ -52,9 +53,9 @@ fn write_whole(out: &mut impl Write, case: &Case) -> Result<(), Fault> {
 
 // The numbers that data says.
 fn write_reading(out: &mut impl Write, data: &[u8]) -> io::Result<()> {
-    match library::read(data) {
+    match component::read(data) {
         Ok(component) => print::write_component(out, &component),
-        Err(refusal) => print::write_refusal(out, refusal),
+        Err(refusal) => writeln!(out, "{refusal}"),
     }
 }
 
@@ -62,7 +63,7 @@ fn write_reading(out: &mut impl Write, data: &[u8]) -> io::Result<()> {
 fn write_report(out: &mut impl Write, data: &[u8]) -> io::Result<()> {
     let mut entries = LENT_ENTRIES;
     let mut text = LENT_BYTES;
-    let length = library::report(data, &mut entries, &mut text);
+    let length = report::write(data, &mut entries, &mut text);
     write_text(out, length, &text)
 }
 
@@ -70,15 +71,15 @@ fn write_report(out: &mut impl Write, data: &[u8]) -> io::Result<()> {
 fn write_build(out: &mut impl Write, case: &Case) -> Result<(), Fault> {
     let mut entries = LENT_ENTRIES;
     let lent = entries.get_mut(..case.entries).ok_or(Fault::NoCase)?;
-    match library::build(case.body, lent) {
+    match map::build(case.body, lent) {
         Ok(grid) => {
             let count = grid.speeds.count.saturating_mul(grid.torques.count);
             write_kept(out, "entries", &entries, &LENT_ENTRIES, count)?;
             write_again(out, case.body)?;
-            write_answers(out, case, grid, &entries[..case.entries])
+            write_answers(out, case, &grid, &entries[..case.entries])
         }
         Err(refusal) => {
-            print::write_refusal(out, refusal)?;
+            writeln!(out, "{refusal}")?;
             write_kept(out, "entries", &entries, &LENT_ENTRIES, 0)?;
             Ok(())
         }
@@ -92,19 +93,19 @@ fn write_map(out: &mut impl Write, case: &Case) -> Result<(), Fault> {
     let mut entries = LENT_ENTRIES;
     let all = bytes::decode(body, &mut entries).ok_or(Fault::NoCase)?;
     let lent = all.get(..case.entries).ok_or(Fault::NoCase)?;
-    write_answers(out, case, grid, lent)
+    write_answers(out, case, &grid, lent)
 }
 
 // A map's listing in the lent text, and the answers to the questions.
 fn write_answers(
     out: &mut impl Write,
     case: &Case,
-    grid: Grid,
+    grid: &Grid,
     entries: &[u32],
 ) -> Result<(), Fault> {
     let mut text = LENT_BYTES;
     let lent = text.get_mut(..case.room).ok_or(Fault::NoCase)?;
-    let length = library::list(grid, entries, lent);
+    let length = listing::write(grid, entries, lent);
     write_text(out, length, &text)?;
     write_kept(out, "text", &text, &LENT_BYTES, length.unwrap_or(0))?;
     for question in case.questions.chunks_exact(8) {
@@ -116,19 +117,19 @@ fn write_answers(
 // The loss and the nearest point.
 fn write_answer(
     out: &mut impl Write,
-    grid: Grid,
+    grid: &Grid,
     entries: &[u32],
     mut question: &[u8],
 ) -> Result<(), Fault> {
     let speed = bytes::next_u32(&mut question).ok_or(Fault::NoCase)?;
     let torque = bytes::next_u32(&mut question).ok_or(Fault::NoCase)?;
-    match library::loss(grid, entries, speed, torque) {
+    match lookup::loss(grid, entries, speed, torque) {
         Ok(loss) => writeln!(out, "loss {loss}")?,
-        Err(refusal) => print::write_refusal(out, refusal)?,
+        Err(refusal) => writeln!(out, "{refusal}")?,
     }
-    match library::nearest(grid, speed, torque) {
-        Ok((speed, torque)) => writeln!(out, "nearest {speed} {torque}")?,
-        Err(refusal) => print::write_refusal(out, refusal)?,
+    match lookup::nearest(grid, speed, torque) {
+        Ok(point) => writeln!(out, "nearest {} {}", point.speed, point.torque)?,
+        Err(refusal) => writeln!(out, "{refusal}")?,
     }
     Ok(())
 }
@@ -137,7 +138,7 @@ fn write_answer(
 fn write_text(out: &mut impl Write, length: Result<usize, Refusal>, text: &[u8]) -> io::Result<()> {
     match length {
         Ok(length) => out.write_all(&text[..length.min(text.len())]),
-        Err(refusal) => print::write_refusal(out, refusal),
+        Err(refusal) => writeln!(out, "{refusal}"),
     }
 }
 
@@ -164,13 +165,13 @@ fn write_file(out: &mut impl Write, case: &Case) -> Result<(), Fault> {
     let torques = bytes::decode(body, &mut rows).ok_or(Fault::NoCase)?;
     let mut file = LENT_BYTES;
     let lent = file.get_mut(..case.room).ok_or(Fault::NoCase)?;
-    let length = library::write(numbers, torques, lent);
+    let length = writer::write(&numbers, torques, lent);
     match length {
         Ok(length) => {
             let written = &file[..length.min(file.len())];
             writeln!(out, "written {length}\n{}", Hexadecimal(written))?;
         }
-        Err(refusal) => print::write_refusal(out, refusal)?,
+        Err(refusal) => writeln!(out, "{refusal}")?,
     }
     write_kept(out, "file", &file, &LENT_BYTES, length.unwrap_or(0))?;
     Ok(())
@@ -186,32 +187,34 @@ fn write_again(out: &mut impl Write, data: &[u8]) -> io::Result<()> {
 
 // In just the room that the data needs.
 fn is_written_again(data: &[u8]) -> Option<bool> {
-    let component = library::read(data).ok()?;
-    let row_bytes = data.get(component.rows.start..component.rows.end)?;
+    let component = component::read(data).ok()?;
     let mut rows = [0; MOST_ROWS];
+    let row_bytes = match component.measured {
+        Some(measured) => measured.rows.bytes,
+        None => &data[..0],
+    };
     let torques = bytes::decode(row_bytes, &mut rows)?;
     let mut file = LENT_BYTES;
     let lent = file.get_mut(..data.len())?;
-    let length = library::write(numbers_of(&component), torques, lent).ok()?;
+    let length = writer::write(&numbers_of(&component), torques, lent).ok()?;
     Some(length == data.len() && &*lent == data)
 }
 
 fn numbers_of(component: &Component) -> Numbers {
-    let Component {
-        kind,
-        line,
-        ratio,
-        grid,
-        input,
-        output,
-        right,
-        ..
-    } = *component;
+    let none = Sensor::from([0; 9]);
+    let (input, output, right) = match component.measured {
+        Some(measured) => (
+            measured.input,
+            measured.output,
+            measured.right.unwrap_or(none),
+        ),
+        None => (none, none, none),
+    };
     Numbers {
-        kind,
-        line,
-        ratio,
-        grid,
+        kind: component.kind(),
+        line: component.line,
+        ratio: component.ratio,
+        grid: component.grid,
         input,
         output,
         right,

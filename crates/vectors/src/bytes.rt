@@ -1,5 +1,5 @@
 // Numbers taken from the front of bytes, most significant byte first. None where there are too few bytes.
-use grid::{Grid, SpeedAxis, TorqueAxis};
+use grid::{Axis, Grid};
 use numbers::Numbers;
 use sensor::Sensor;
 
@@ -30,7 +30,7 @@ fn next_array<const N: usize>(bytes: &mut &[u8]) -> Option<[u16; N]> {
 }
 
 fn next_sensor(bytes: &mut &[u8]) -> Option<Sensor> {
-    Some(sensor::sensor_of(&next_array(bytes)?))
+    next_array(bytes).map(Sensor::from)
 }
 
 // The axes of a lent map, or of numbers to be written.
@@ -38,11 +38,11 @@ pub fn next_grid(bytes: &mut &[u8]) -> Option<Grid> {
     let speed_count = next_usize(bytes)?;
     let torque_count = next_usize(bytes)?;
     Some(Grid {
-        speeds: SpeedAxis {
+        speeds: Axis {
             numbers: next_array(bytes)?,
             count: speed_count,
         },
-        torques: TorqueAxis {
+        torques: Axis {
             numbers: next_array(bytes)?,
             count: torque_count,
         },

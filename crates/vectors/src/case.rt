@@ -1,6 +1,5 @@
 // Cases, as they are read.
-use std::io;
-use std::io::{ErrorKind, Read};
+use std::io::Read;
 
 // What a case asks for.
 #[derive(Clone, Copy)]
@@ -26,6 +25,15 @@ impl Kind {
 }
 
 #[derive(Clone, Copy)]
+pub struct Head {
+    letter: u8,
+    entries: u16,
+    room: u32,
+    length: u32,
+    questions: u8,
+}
+
+#[derive(Clone, Copy)]
 pub struct Case<'a> {
     // None where the letter is none of the five.
     pub kind: Option<Kind>,
@@ -36,41 +44,33 @@ pub struct Case<'a> {
     pub questions: &'a [u8],
 }
 
-impl<'a> Case<'a> {
-    // The body and the questions go into the buffer. None where the input has ended.
-    pub fn read(reader: &mut impl Read, buffer: &'a mut [u8]) -> io::Result<Option<Case<'a>>> {
+impl Head {
+    // None where no whole head is left.
+    pub fn read(reader: &mut impl Read) -> Option<Head> {
         let mut head = [0; 12];
-        match reader.read_exact(&mut head) {
-            Ok(()) => {}
-            Err(error) if error.kind() == ErrorKind::UnexpectedEof => return Ok(None),
-            Err(error) => return Err(error),
-        }
-        let [
+        reader.read_exact(&mut head).ok()?;
+        let [letter, e0, e1, r0, r1, r2, r3, l0, l1, l2, l3, questions] = head;
+        Some(Head {
             letter,
-            e0,
-            e1,
-            r0,
-            r1,
-            r2,
-            r3,
-            l0,
-            l1,
-            l2,
-            l3,
-            question_count,
-        ] = head;
-        let length = u32::from_be_bytes([l0, l1, l2, l3]) as usize;
-        let rest = buffer
-            .get_mut(..length + 8 * usize::from(question_count))
-            .ok_or(ErrorKind::InvalidData)?;
-        reader.read_exact(rest)?;
+            entries: u16::from_be_bytes([e0, e1]),
+            room: u32::from_be_bytes([r0, r1, r2, r3]),
+            length: u32::from_be_bytes([l0, l1, l2, l3]),
+            questions,
+        })
+    }
+
+    // The case, whose body and questions go into the buffer. None where they are not whole, or longer than the buffer.
+    pub fn case<'a>(self, reader: &mut impl Read, buffer: &'a mut [u8]) -> Option<Case<'a>> {
+        let length = self.length as usize;
+        let rest = buffer.get_mut(..length + 8 * usize::from(self.questions))?;
+        reader.read_exact(rest).ok()?;
         let (body, questions) = rest.split_at(length);
-        Ok(Some(Case {
-            kind: Kind::from_letter(letter),
-            entries: usize::from(u16::from_be_bytes([e0, e1])),
-            room: u32::from_be_bytes([r0, r1, r2, r3]) as usize,
+        Some(Case {
+            kind: Kind::from_letter(self.letter),
+            entries: usize::from(self.entries),
+            room: self.room as usize,
             body,
             questions,
-        }))
+        })
     }
 }

@@ -12,10 +12,9 @@
 mod answer;
 mod bytes;
 mod case;
-mod library;
 mod print;
 
-use case::Case;
+use case::Head;
 use std::io;
 use std::io::{Cursor, Write};
 
@@ -27,14 +26,21 @@ fn main(rt: HostRuntime) -> io::Result<()> {
     let mut answers = [0; 262_144];
     // No input has more cases.
     for number in 0..u64::MAX {
-        let Some(case) = Case::read(&mut stdin, &mut buffer)? else {
+        let Some(head) = Head::read(&mut stdin) else {
             break;
         };
         let mut out = Cursor::new(&mut answers[..]);
         writeln!(out, "case {number}")?;
-        answer::write(&mut out, &case)?;
+        let case = head.case(&mut stdin, &mut buffer);
+        if let Some(case) = &case {
+            answer::write(&mut out, case)?;
+        }
         let length = out.position() as usize;
         stdout.write_all(&answers[..length.min(answers.len())])?;
+        // The input ends within the case, or cannot be read.
+        if case.is_none() {
+            break;
+        }
     }
     Ok(())
 }

@@ -1,6 +1,6 @@
 // How answers are written.
-use component::Component;
-use refusal::Refusal;
+use component::{Component, Measured};
+use grid::Axis;
 use sensor::Sensor;
 use std::io::Write;
 use std::{fmt, io};
@@ -31,46 +31,38 @@ impl fmt::Display for Hexadecimal<'_> {
     }
 }
 
-pub fn write_refusal(out: &mut impl Write, refusal: Refusal) -> io::Result<()> {
-    writeln!(out, "refused {} at {}", refusal.number(), refusal.place())
-}
-
-fn write_axis<const N: usize>(
-    out: &mut impl Write,
-    name: &str,
-    numbers: &[u16; N],
-    count: usize,
-) -> io::Result<()> {
-    write!(out, " {name}{}", Spaced(&numbers[..count.min(N)]))
+fn write_axis<const N: usize>(out: &mut impl Write, name: &str, axis: &Axis<N>) -> io::Result<()> {
+    write!(out, " {name}{}", Spaced(&axis.numbers[..axis.count.min(N)]))
 }
 
 fn write_sensor(out: &mut impl Write, name: &str, sensor: Sensor) -> io::Result<()> {
-    write!(out, " {name}{}", Spaced(&sensor::numbers_of(sensor)))
+    write!(out, " {name}{}", Spaced(&sensor.numbers()))
 }
 
-fn write_measured(out: &mut impl Write, component: &Component) -> io::Result<()> {
-    write_sensor(out, "input", component.input)?;
-    write_sensor(out, "output", component.output)?;
-    if component.kind == 3 {
-        write_sensor(out, "right", component.right)?;
+fn write_measured(out: &mut impl Write, measured: &Measured) -> io::Result<()> {
+    write_sensor(out, "input", measured.input)?;
+    write_sensor(out, "output", measured.output)?;
+    if let Some(right) = measured.right {
+        write_sensor(out, "right", right)?;
     }
-    let rows = component.rows;
-    write!(out, " rows {} to {}", rows.start, rows.end)
+    let start = measured.rows.start;
+    let end = start.saturating_add(measured.rows.bytes.len());
+    write!(out, " rows {start} to {end}")
 }
 
 pub fn write_component(out: &mut impl Write, component: &Component) -> io::Result<()> {
+    let kind = component.kind();
     let Component {
-        kind,
         line,
         ratio,
         grid,
-        ..
-    } = *component;
+        measured,
+    } = component;
     write!(out, "kind {kind} line {line} ratio {ratio}")?;
-    write_axis(out, "speeds", &grid.speeds.numbers, grid.speeds.count)?;
-    write_axis(out, "torques", &grid.torques.numbers, grid.torques.count)?;
-    if kind != 1 {
-        write_measured(out, component)?;
+    write_axis(out, "speeds", &grid.speeds)?;
+    write_axis(out, "torques", &grid.torques)?;
+    if let Some(measured) = measured {
+        write_measured(out, measured)?;
     }
     writeln!(out)
 }
