@@ -64,7 +64,8 @@ fn line_of(number: u16) -> Line
 
 // The standard entry: the exact loss rounded up to a hundredth of Nm.
 pub fn standard_entry(line: u16, ratio: u16, torque: u16) -> u64
-    ensures { result ≡ standard_entry line ratio torque }
+    ensures entry { result ≡ standard_entry line ratio torque }
+    ensures bound { result < 2 ^ 32 }
 {
     let Line { efficiency, t0, t1 } = line_of(line);
     let constant = efficiency * t0 * 1000;

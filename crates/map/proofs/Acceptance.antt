@@ -7,7 +7,7 @@ use borrow.Author.Tests.{leb-true, leb-false, le-leb, lt-leb}
 use lib.Dec.{leb}
 use lib.ListN.{length}
 use Rattle.refusal.specs.Outcome.{Told, accepted, refused}
-use Rattle.refusal.proofs.Steps.{never, same_value, then_accepted, then_refused, test_accepted, test_refused, placed_accepted, placed_refused}
+use Rattle.refusal.proofs.Steps.{never, same_value, then_accepted, then_refused, test_accepted, test_refused, placed_accepted}
 use Rattle.refusal.proofs.First.{first_all, first_of, first_refused, first_found}
 use Rattle.component.specs.Component.{Component, Kind, standard, measured, component}
 use Rattle.layout.proofs.Theorems.{sound, complete, refused_means, refused_only_then}
@@ -29,9 +29,7 @@ kind_accepted c (measured input outputs rows) i j r = rw (row_accepted _ _ r)
 kind_wrong : (c : Component) (kind : Kind) (i j : ℕ) (told : Told) → check_of_kind c i j kind ≡ refused told → PointFault c i j kind told
 unfolding check_of_kind
 kind_wrong c standard i j told e = never told tt (sym e)
-kind_wrong c (measured input outputs rows) i j told e =
-    let p = placed_refused _ _ told e in
-    row_wrong _ _ _ told p.0 p.1 p.2
+kind_wrong c (measured input outputs rows) i j told e = row_wrong _ _ _ told e
 
 kind_refused : (c : Component) (kind : Kind) (i j : ℕ) (told : Told) → PointFault c i j kind told → check_of_kind c i j kind ≡ refused told
 unfolding check_of_kind

@@ -1,41 +1,14 @@
--- Loops that copy a row to the first places of a list, and rows one after the other. Assumes nothing.
-use Prim.Native.Nat.{ℕ, suc, ◌+◌, ◌-◌, ◌*◌, ◌≤◌, ◌<◌}
-use mathlib.Core.Path.{◌≡◌, refl, sym, ◌∙◌}
-use mathlib.Core.List.{List, [], ◌∷◌, ◌++◌, append_assoc}
+-- Rows that are copied one after the other. Assumes nothing.
+use Prim.Native.Nat.{ℕ, ◌+◌, ◌-◌, ◌*◌, ◌≤◌, ◌<◌}
+use mathlib.Core.Path.{◌≡◌}
+use mathlib.Core.List.{List, ◌++◌}
 use native.Mathlib.Omega.{arith}
-use native.Mathlib.Numerals.{add-one}
-use lib.ListN.{length, get_or, take, drop, set, length-append, length-drop, length-take}
+use lib.ListN.{length, take, drop, length-drop, length-take}
 use native.Mathlib.Nat.{mul-le-mul_right, suc-mul}
-use lib.Seq.{drop-cons, set_at, take_at, take-suc, take_all, length-take-le}
-use Rattle.grid.specs.Lists.{joined, overwritten}
+use lib.Seq.{take_at}
+use Rattle.grid.specs.Lists.{joined}
 use Rattle.grid.proofs.Lists.{joined_same, joined_stretch}
 use Rattle.map.specs.Answers.{stretch}
-
-pub record Copying (row before now : List ℕ) (i : ℕ) : Type 0 where
-  pub below : i ≤ length row
-  pub long : length now ≡ length before
-  pub written : now ≡ take i row ++ drop i before
-
-module _ (row before : List ℕ) where
-  pub none_copied : Copying row before before 0
-  none_copied = record { below = omega arith; long = refl; written = refl }
-
-  module _ (now : List ℕ) (i : ℕ) (p : Copying row before now i) where
-    pub one_copied : i < length row → length row ≤ length before → Copying row before (set now i (get_or row i 0)) (i + 1)
-    one_copied more fits =
-        let r : i < length before = omega arith in
-        let s : length (take i row) ≡ i = length-take-le i row (omega arith) in
-        let s2 : length (take (i + 1) row) ≡ i + 1 = length-take-le (i + 1) row (omega arith) in
-        let w : set now i (get_or row i 0) ≡ take (i + 1) row ++ drop (i + 1) before =
-        rw (p.written, add-one i, drop-cons before i 0 r, set_at (take i row) _ (drop (suc i) before) (get_or row i 0) i s, take-suc row i 0 more)
-        (sym (append_assoc (take i row) (get_or row i 0 ∷ []) (drop (suc i) before)))
-        in
-        record { below = omega arith; long = rw w (simp (length-append, s2, length-drop) (omega arith)); written = w }
-
-    pub all_copied : length row ≤ i → now ≡ overwritten row before
-    all_copied end =
-        let e : i ≡ length row = omega (arith, p.below) in
-        p.written ∙ rw (e, take_all (length row) row (omega arith))
 
 -- a row that is copied lies within what is given
 pub source_room : (i speeds step size long : ℕ) → i < speeds → speeds * step + size ≤ long + step → i * step + size ≤ long

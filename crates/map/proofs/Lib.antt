@@ -2,6 +2,5 @@ pub mod Copying
 pub mod StandardRows
 pub mod Maps
 pub mod ReadData
-pub mod WholeBuild
 pub mod Valid
 pub mod Acceptance

@@ -1,157 +1,108 @@
 -- What the build of data that was read gives, in each of its cases. Assumes nothing.
-use Prim.Native.Nat.{ℕ, ◌+◌, ◌*◌, ◌≤◌, ◌<◌}
-use mathlib.Core.Path.{◌≡◌, refl, sym, ap, ◌∙◌}
+use Prim.Native.Nat.{ℕ, ◌*◌, ◌≤◌, ◌<◌}
+use mathlib.Core.Path.{◌≡◌, ap, ◌∙◌}
 use mathlib.Core.List.{List}
-use native.Mathlib.Omega.{arith}
-use native.Mathlib.Nat.{mul-le-mul, le_of_eq}
-use borrow.Author.Tests.{eq-eqb, ne_eqb}
-use lib.ListN.{length, take, length-take, length-drop}
+use lib.ListN.{length, take}
 use lib.Seq.{take_at}
-use Rattle.refusal.specs.Outcome.{accepted, first_refusal}
-use Rattle.refusal.specs.Table.{told, answer_says}
-use Rattle.grid.specs.Map.{speeds_of, torques_of}
-use Rattle.grid.specs.declared.Grid.{Grid}
-use Rattle.fields.specs.Bytes.{between}
-use Rattle.sensor.specs.declared.Sensor.{Sensor}
-use Rattle.component.specs.Component.{standard, measured, sensor_count, Component as ComponentSays}
-use Rattle.component.specs.Answers.{component_of, rows_of, outputs_of}
-use Rattle.component.specs.declared.Component.{Component}
-use Rattle.layout.specs.Rules.{AreBytes, Rules, KindRules}
-use Rattle.layout.proofs.Theorems.{sound}
-use Rattle.grid.specs.Lists.{joined, overwritten}
-use Rattle.map.specs.Build.{points, entries, map_of, rows_check, content}
-use Rattle.map.specs.Answers.{NoneAbove, standard_row, EntriesWritten, answer_of, ReadAs, BuildsEntries}
-use Rattle.rows.specs.Answers.{speed_part_check, speed_part_entries, bench_with, BenchRight, bench_of}
-use Rattle.rows.specs.Rows.{row_start}
-use Rattle.refusal.specs.declared.Answer.{Answer}
-use Rattle.refusal.specs.declared.Answer.TheVariants.{Accepted, Refused}
-use Rattle.rows.specs.declared.Bench.{Bench as BenchParts}
+use Rattle.std.proofs.Common.{Some, None, Result, Ok, Err}
+use Rattle.refusal.specs.Outcome.{accepted, refused, first_refusal}
+use Rattle.refusal.specs.Table.{told, outcome_of}
+use Rattle.refusal.specs.declared.Refusal.{Refusal}
 use Rattle.refusal.specs.declared.Refusal.TheVariants.{TooShort}
+use Rattle.grid.specs.Lists.{joined, overwritten}
+use Rattle.grid.specs.Map.{counted_numbers}
 use Rattle.grid.proofs.Lists.{length_tabulate, length_joined}
-use Rattle.rows.proofs.SpeedParts.{speed_size}
-use Rattle.map.proofs.Maps.{too_few, rows_refused, rows_fine, standard_checked, standard_entries, measured_says, measured_checked, measured_entries}
+use Rattle.component.specs.Component.{component}
+use Rattle.component.specs.Answers.{CountsWithin, component_of, output_sensors, rows_of}
+use Rattle.component.specs.declared.Component.{Component}
+use Rattle.component.specs.declared.Measured.{Measured}
+use Rattle.rows.specs.Answers.{speed_part_check, speed_part_entries, bench_with, bench_of}
+use Rattle.rows.specs.declared.Bench.{Bench}
+use Rattle.rows.proofs.RowParts.{speed_size}
+use Rattle.map.specs.Build.{points, entries, rows_check, build}
+use Rattle.map.specs.Answers.{standard_row, EntriesWritten, BuildsEntries, Builds}
+use Rattle.map.proofs.Maps.{too_few, rows_refused, rows_fine, standard_checked, standard_entries, measured_checked, measured_entries}
 
--- the place past a part of the data is within the data
-pub part_within : (bytes : List ℕ) (start end limit : ℕ) → start ≤ end → end ≤ length bytes → length bytes < limit → start + length (between bytes start end) < limit
-part_within bytes start end limit h k l = simp (length-take, length-drop) (omega arith)
+module _ (c : Component) (counts : CountsWithin c.grid) (torques : List ℕ) (e : torques ≡ counted_numbers c.grid.torques) where
+  count_is : length torques ≡ c.grid.torques.count
+  count_is = ap length e ∙ counts.torques_length
 
--- once all rows are fine and the entries are written
-finished : (says : ComponentSays) (grid : Grid) (before after new : List ℕ) → says.speeds ≡ speeds_of grid.speeds → says.torques ≡ torques_of grid.torques
-    → new ≡ entries says → length new ≡ grid.speeds.count * grid.torques.count → points says ≤ length before → accepted tt ≡ rows_check says
-    → after ≡ overwritten new before
-    → (answer_of Accepted grid after ≡ map_of says (length before)) × (after ≡ content (map_of says (length before)) before)
-finished says grid before after new s t e l room fine w =
-    let m = rows_fine says (length before) room fine in
-    let front : take (grid.speeds.count * grid.torques.count) after ≡ entries says = rw w (take_at new _ _ l) ∙ e in
-    (rw (← s, ← t, front) m, rw (← m, ← e) w)
-
-module _ (bytes : List ℕ) (c : Component) (r : ReadAs bytes c) (torques : List ℕ) (e : torques ≡ torques_of c.grid.torques) where
-  pub count_is : length torques ≡ c.grid.torques.count
-  count_is = ap length e ∙ r.counts.torques_length
-
-  pub few_torques : length torques ≤ 64
-  few_torques = omega (arith, count_is, r.counts.torques)
-
-  pub few_points : c.grid.speeds.count * length torques ≤ 2048
-  few_points = mul-le-mul r.counts.speeds few_torques
-
-  points_are : points (component_of bytes c) ≡ c.grid.speeds.count * length torques
-  points_are = rw (r.counts.speeds_length, ← e)
+  points_are : points (component_of c) ≡ c.grid.speeds.count * length torques
+  points_are = rw (counts.speeds_length, ← e)
 
   pub short : (before : List ℕ) → length before < c.grid.speeds.count * length torques
-      → BuildsEntries bytes before before c (Refused (TooShort (c.grid.speeds.count * length torques)))
+      → BuildsEntries before before c (Err (TooShort (c.grid.speeds.count * length torques)))
   short before h =
-      let few : length before < points (component_of bytes c) = rw points_are h in
-      let m = too_few (component_of bytes c) (length before) few in
+      let few : length before < points (component_of c) = rw points_are h in
+      let m = too_few (component_of c) (length before) few in
       record { outcome = rw points_are at m; written = rw (← m) }
 
-  module _ (are_bytes : AreBytes bytes) where
-    rules : Rules (component_of bytes c)
-    rules = (sound bytes (component_of bytes c) are_bytes (sym r.read)).0
-
-    pub line_range : (1 ≤ c.line) × (c.line ≤ 5)
-    line_range = rules.line
-
-    pub ratio_most : c.ratio ≤ 20000
-    ratio_most = rules.ratio.1
-
-    pub torques_most : NoneAbove torques 50000
-    torques_most = rw e (λ i h. (rules.torques.ranges i h).1)
+  module _ (before after : List ℕ) (room : c.grid.speeds.count * length torques ≤ length before) where
+    -- once all rows are fine and the entries are written
+    finished : (new : List ℕ) → new ≡ entries (component_of c) → length new ≡ c.grid.speeds.count * length torques → accepted tt ≡ rows_check (component_of c)
+        → after ≡ overwritten new before → BuildsEntries before after c (Ok tt)
+    finished new s l fine w =
+        let m = rows_fine (component_of c) (length before) (rw points_are room) fine in
+        let front : take (c.grid.speeds.count * c.grid.torques.count) after ≡ entries (component_of c) =
+        rw w (take_at new _ _ (l ∙ ap (λ (n : ℕ). c.grid.speeds.count * n) count_is)) ∙ s in
+        record { outcome = rw front m; written = rw (← m, ← s) w }
 
     -- ---- standard data
-    module _ (kind : c.kind ≡ 1) (before after : List ℕ) (room : c.grid.speeds.count * length torques ≤ length before) where
-      standard_says : component_of bytes c
-          ≡ record { kind = standard; line = c.line; ratio = c.ratio; speeds = speeds_of c.grid.speeds; torques = torques_of c.grid.torques }
-      standard_says = rw (eq-eqb c.kind 1 kind)
-
-      pub standard_built : after ≡ overwritten (joined (standard_row c.line c.ratio torques) c.grid.speeds.count) before
-          → BuildsEntries bytes before after c Accepted
-      unfolding standard_row
-      standard_built w =
-          let speeds = speeds_of c.grid.speeds in
-          let new = joined (standard_row c.line c.ratio torques) c.grid.speeds.count in
-          let count : length speeds ≡ c.grid.speeds.count = r.counts.speeds_length in
-          let same : new ≡ entries (component_of bytes c) =
-          rw (standard_says, ← standard_entries c.line c.ratio speeds (torques_of c.grid.torques), count, e) refl in
-          let long : length new ≡ c.grid.speeds.count * c.grid.torques.count =
-          length_joined _ (length torques) _ (λ s h. length_tabulate _ (length torques)) ∙ rw count_is refl in
-          let fine : accepted tt ≡ rows_check (component_of bytes c) = rw standard_says (standard_checked c.line c.ratio speeds (torques_of c.grid.torques)) in
-          let f = finished (component_of bytes c) c.grid before after new refl refl same long (rw points_are room) fine w in
-          record { outcome = f.0; written = f.1 }
+    pub standard_built : c.measured ≡ None → after ≡ overwritten (joined (standard_row c.line c.ratio torques) c.grid.speeds.count) before
+        → BuildsEntries before after c (Ok tt)
+    unfolding standard_row
+    standard_built none w =
+        let speeds = counted_numbers c.grid.speeds in
+        let all = counted_numbers c.grid.torques in
+        finished (joined (standard_row c.line c.ratio torques) c.grid.speeds.count)
+        (rw (e, none, ← standard_entries c.line c.ratio speeds all, counts.speeds_length))
+        (length_joined _ (length torques) _ (λ s h. length_tabulate _ (length torques)))
+        (rw none (standard_checked c.line c.ratio speeds all))
+        w
 
     -- ---- measured data
-    module _ (kind : c.kind ≡ 1 → ⊥) where
-      abbrev outputs : List Sensor
-      outputs = outputs_of c.kind c.output c.right
+    module _ (m : Measured) (some : c.measured ≡ Some m) (b : Bench) (h : bench_of b ≡ bench_with c.ratio m.input m.output m.right) where
+      checked : first_refusal (speed_part_check (bench_of b) torques m.rows.bytes.now m.rows.start) 0 c.grid.speeds.count ≡ rows_check (component_of c)
+      checked =
+          rw (
+            some,
+            h,
+            e,
+            ← measured_checked c.line c.ratio (counted_numbers c.grid.speeds) (counted_numbers c.grid.torques) m.input (output_sensors m.output m.right) (rows_of m.rows),
+            counts.speeds_length,
+          )
 
-      measured_says_lem : component_of bytes c
-          ≡ measured_says c.line c.ratio (speeds_of c.grid.speeds) (torques_of c.grid.torques) c.input outputs (rows_of bytes c.rows)
-      measured_says_lem = rw (ne_eqb c.kind 1 kind)
+      written_entries : joined (speed_part_entries (bench_of b) torques m.rows.bytes.now) c.grid.speeds.count ≡ entries (component_of c)
+      written_entries =
+          rw (
+            some,
+            h,
+            e,
+            ← measured_entries c.line c.ratio (counted_numbers c.grid.speeds) (counted_numbers c.grid.torques) m.input (output_sensors m.output m.right) (rows_of m.rows),
+            counts.speeds_length,
+          )
 
-      kind_rules : KindRules (length (speeds_of c.grid.speeds)) (length (torques_of c.grid.torques)) (measured c.input outputs (rows_of bytes c.rows))
-      kind_rules = rw (ne_eqb c.kind 1 kind) at rules.kind
+      pub measured_built : (a : Result (Unit {0}) Refusal)
+          → outcome_of a ≡ first_refusal (speed_part_check (bench_of b) torques m.rows.bytes.now m.rows.start) 0 c.grid.speeds.count
+          → EntriesWritten a after (joined (speed_part_entries (bench_of b) torques m.rows.bytes.now) c.grid.speeds.count) before → BuildsEntries before after c a
+      measured_built (Ok u) q w =
+          finished (joined (speed_part_entries (bench_of b) torques m.rows.bytes.now) c.grid.speeds.count) written_entries (length_joined _ (length torques) _ (speed_size _ _ _ _)) (q ∙ checked) w
+      measured_built (Err x) q w =
+          let r = rows_refused (component_of c) (length before) (told x) (rw points_are room) (q ∙ checked) in
+          record { outcome = r; written = rw (← r) w }
 
-      -- as many sensors as the kind's number
-      kind_is : c.kind ≡ sensor_count outputs
-      kind_is = rw (ne_eqb c.kind 1 kind) at r.kind
+-- ---- the whole build
 
-      pub bench_right : (b : BenchParts) → b ≡ bench_with c.kind c.ratio c.input c.output c.right → BenchRight b
-      bench_right b h =
-          rw h
-          (record {
-            ratio = ratio_most;
-            least = omega (arith, kind_is, kind_rules.some_output);
-            most = omega (arith, kind_is, kind_rules.most_outputs);
-            input = record { rules = kind_rules.sensors.0; fixed = refl };
-            output = record { rules = kind_rules.sensors.1.0; fixed = refl };
-            right = λ three. record { rules = (rw (ne_eqb c.kind 2 (λ two. absurd (omega arith))) at kind_rules.sensors.1.1).0; fixed = refl };
-          })
+module _ (bytes before : List ℕ) where
+  pub read_refused : (x : Refusal) → refused (told x) ≡ component bytes → Builds bytes before before (Err x)
+  unfolding build
+  read_refused x e = record { outcome = rw (← e); written = rw (← e); counts = tt }
 
-      pub rows_long : (b : BenchParts) → b ≡ bench_with c.kind c.ratio c.input c.output c.right
-          → row_start (bench_of b) (c.grid.speeds.count * length torques) ≤ length (between bytes c.rows.start c.rows.end)
-      rows_long b h = le_of_eq (rw (h, e, ← r.counts.speeds_length) (sym kind_rules.long))
+  module _ (c : Component) (read : accepted (component_of c) ≡ component bytes) (after : List ℕ) where
+    pub built_refused : (x : Refusal) → BuildsEntries before after c (Err x) → Builds bytes before after (Err x)
+    unfolding build
+    built_refused x b = record { outcome = rw (← read) b.outcome; written = rw (← read) b.written; counts = tt }
 
-      module _ (before after : List ℕ) (room : c.grid.speeds.count * length torques ≤ length before) (b : BenchParts)
-          (h : b ≡ bench_with c.kind c.ratio c.input c.output c.right) where
-        checked : first_refusal (speed_part_check (bench_of b) torques (between bytes c.rows.start c.rows.end) c.rows.start) 0 c.grid.speeds.count ≡ rows_check (component_of bytes c)
-        checked =
-            rw (measured_says_lem, ← measured_checked c.line c.ratio (speeds_of c.grid.speeds) (torques_of c.grid.torques) c.input outputs (rows_of bytes c.rows), r.counts.speeds_length, e, h)
-            refl
-
-        written_entries : joined (speed_part_entries (bench_of b) torques (between bytes c.rows.start c.rows.end)) c.grid.speeds.count ≡ entries (component_of bytes c)
-        written_entries =
-            rw (measured_says_lem, ← measured_entries c.line c.ratio (speeds_of c.grid.speeds) (torques_of c.grid.torques) c.input outputs (rows_of bytes c.rows), r.counts.speeds_length, e, h)
-            refl
-
-        pub measured_built : (a : Answer)
-            → answer_says a ≡ first_refusal (speed_part_check (bench_of b) torques (between bytes c.rows.start c.rows.end) c.rows.start) 0 c.grid.speeds.count
-            → EntriesWritten a after (joined (speed_part_entries (bench_of b) torques (between bytes c.rows.start c.rows.end)) c.grid.speeds.count) before
-            → BuildsEntries bytes before after c a
-        measured_built Accepted q w =
-            let new = joined (speed_part_entries (bench_of b) torques (between bytes c.rows.start c.rows.end)) c.grid.speeds.count in
-            let long : length new ≡ c.grid.speeds.count * c.grid.torques.count = length_joined _ (length torques) _ (speed_size _ _ _ _) ∙ rw count_is refl in
-            let f = finished (component_of bytes c) c.grid before after _ refl refl written_entries long (rw points_are room) (q ∙ checked) w in
-            record { outcome = f.0; written = f.1 }
-        measured_built (Refused x) q w =
-            let m = rows_refused (component_of bytes c) (length before) (told x) (rw points_are room) (q ∙ checked) in
-            record { outcome = m; written = rw (← m) w }
+    pub built : CountsWithin c.grid → BuildsEntries before after c (Ok tt) → Builds bytes before after (Ok c.grid)
+    unfolding build
+    built counts b = record { outcome = rw (← read) b.outcome; written = rw (← read) b.written; counts = counts }

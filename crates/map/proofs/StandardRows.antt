@@ -2,10 +2,10 @@
 use Prim.Native.Nat.{ℕ, ◌+◌, ◌-◌, ◌*◌, ◌≤◌, ◌<◌}
 use native.Mathlib.Omega.{arith}
 use native.Mathlib.Nat.{mul-le-mul, le_refl}
-use lib.ListN.{get_or}
+use mathlib.Core.Path.{refl}
 use Rattle.arith.specs.Quotient.{quotient_up_law, quotient_up_least}
-use Rattle.loss.specs.Standard.{lines, no_line, standard_entry}
-use Rattle.loss.proofs.Lines.{line_facts, line_at}
+use Rattle.loss.specs.Standard.{line_of, standard_entry}
+use Rattle.loss.proofs.Lines.{line_facts}
 use Rattle.loss.proofs.Values.{standard_entry_is}
 
 bounded : (e t0 r ratio torque : ℕ) → 95 ≤ e → e ≤ 98 → t0 ≤ 90 → r ≤ 5 → ratio ≤ 20000 → torque ≤ 50000 → e * t0 * 1000 + e * 20 * ratio + 1000 * r * torque ≤ 10000000 * (10 * e)
@@ -14,11 +14,10 @@ bounded e t0 r ratio torque a b c d f g =
 
 pub standard_most : (number ratio torque : ℕ) → 1 ≤ number → number ≤ 5 → ratio ≤ 20000 → torque ≤ 50000 → standard_entry number ratio torque ≤ 10000000
 standard_most number ratio torque h k f g =
-    let l = get_or lines (number - 1) no_line in
-    let e = line_at no_line number h k in
-    let facts = line_facts (number - 1) (omega arith) in
+    let l = line_of number in
+    let facts = line_facts number h k in
     let some : 0 < l.efficiency = omega (arith, facts.lowest) in
     let ten : 0 < 10 * l.efficiency = omega arith in
-    rw (standard_entry_is number ratio torque l e some, facts.always)
+    rw (standard_entry_is number ratio torque l refl some, facts.always)
     (quotient_up_least (quotient_up_law _ (10 * l.efficiency) ten) 10000000
     (bounded l.efficiency l.t0 (100 - l.efficiency) ratio torque facts.lowest facts.highest facts.drag (omega (arith, facts.lowest)) f g))

@@ -14,7 +14,9 @@ use Rattle.refusal.specs.Outcome.{accepted}
 use Rattle.refusal.proofs.Steps.{same_value, then_accepted, test_accepted, placed_accepted}
 use Rattle.refusal.proofs.First.{first_all}
 use Rattle.grid.specs.Lists.{tabulate, joined}
-use Rattle.grid.specs.Map.{speeds_of, torques_of, valid_map}
+use Rattle.std.proofs.Common.{Ok}
+use Rattle.grid.specs.Map.{valid_map}
+use Rattle.grid.specs.declared.Grid.{Grid}
 use Rattle.grid.specs.declared.Range.{Range}
 use Rattle.grid.specs.Rules.{AxisRules}
 use Rattle.grid.proofs.Map.{map_of_lem}
@@ -23,9 +25,7 @@ use Rattle.rows.proofs.Acceptance.{row_right}
 use Rattle.layout.specs.Rules.{AreBytes, Rules}
 use Rattle.layout.proofs.Theorems.{sound}
 use Rattle.map.specs.Build.{LossMap, points, torque_count, entry, entry_of_kind, check, check_of_kind, speed_check, rows_check, speed_entries, entries, map_of, build}
-use Rattle.map.specs.Answers.{Builds}
-use Rattle.map.specs.declared.Built.{Built}
-use Rattle.refusal.specs.declared.Answer.TheVariants.{Accepted}
+use Rattle.map.specs.Answers.{map_left, Builds}
 use Rattle.grid.proofs.Lists.{length_tabulate, length_joined}
 use Rattle.grid.proofs.Points.{row_within}
 use Rattle.map.proofs.StandardRows.{standard_most}
@@ -127,57 +127,47 @@ axis_kept range most ns numbers count r e l =
       rising = λ k h. rw (at k (omega arith), at (k + 1) h) at (r.rising k (omega arith));
     }
 
-module _ (bytes before after : List ℕ) (are_bytes : AreBytes bytes) (r : Built) (b : Builds bytes before after r) (yes : r.answer ≡ Accepted) where
-  abbrev pub the_map : LossMap
-  the_map = record {
-    speeds = speeds_of r.grid.speeds;
-    torques = torques_of r.grid.torques;
-    entries = take (r.grid.speeds.count * r.grid.torques.count) after;
-  }
-
-  pub is_built : accepted the_map ≡ build bytes (length before)
-  is_built = rw yes at b.outcome
-
-  pub from_data : BuiltFrom bytes (length before) the_map
-  from_data = built_from bytes (length before) the_map is_built
+module _ (bytes before after : List ℕ) (are_bytes : AreBytes bytes) (grid : Grid) (b : Builds bytes before after (Ok grid)) where
+  pub from_data : BuiltFrom bytes (length before) (map_left after grid)
+  from_data = built_from bytes (length before) (map_left after grid) b.outcome
 
   pub data_rules : Rules from_data.says
   data_rules = (sound bytes from_data.says are_bytes from_data.read).0
 
-  speed_count_lem : length from_data.says.speeds ≡ r.grid.speeds.count
+  speed_count_lem : length from_data.says.speeds ≡ grid.speeds.count
   speed_count_lem = ap length from_data.speeds ∙ b.counts.speeds_length
 
-  torque_count_lem : length from_data.says.torques ≡ r.grid.torques.count
+  torque_count_lem : length from_data.says.torques ≡ grid.torques.count
   torque_count_lem = ap length from_data.torques ∙ b.counts.torques_length
 
   -- the entry of a point is what stands at its index
-  pub entry_there : (s j : ℕ) → s < r.grid.speeds.count → j < r.grid.torques.count → get_or after (s * r.grid.torques.count + j) 0 ≡ entry from_data.says s j
+  pub entry_there : (s j : ℕ) → s < grid.speeds.count → j < grid.torques.count → get_or after (s * grid.torques.count + j) 0 ≡ entry from_data.says s j
   entry_there s j h l =
-      let n = r.grid.torques.count in
-      let k : s * n + j < r.grid.speeds.count * n = omega (arith, row_within s r.grid.speeds.count n h) in
-      sym (get_or-take (r.grid.speeds.count * n) after (s * n + j) 0 k)
+      let n = grid.torques.count in
+      let k : s * n + j < grid.speeds.count * n = omega (arith, row_within s grid.speeds.count n h) in
+      sym (get_or-take (grid.speeds.count * n) after (s * n + j) 0 k)
       ∙ ap (λ (x : List ℕ). get_or x (s * n + j) 0) (sym from_data.entries_are)
       ∙ entries_by from_data.says n s j torque_count_lem (omega (arith, speed_count_lem)) l
 
-  entry_limit : (k : ℕ) → k < r.grid.speeds.count * r.grid.torques.count → get_or after k 0 ≤ 10000000
+  entry_limit : (k : ℕ) → k < grid.speeds.count * grid.torques.count → get_or after k 0 ≤ 10000000
   entry_limit k h =
-      let n = r.grid.torques.count in
+      let n = grid.torques.count in
       let pos : 0 < n = omega (arith, data_rules.torques.at_least, torque_count_lem) in
-      let s : k / n < r.grid.speeds.count = (div-lt_iff_lt-mul pos).1 h in
+      let s : k / n < grid.speeds.count = (div-lt_iff_lt-mul pos).1 h in
       let j : k % n < n = mod-lt k pos in
       let e : k / n * n + k % n ≡ k = div-add-mod' k n in
       rw (← e, entry_there (k / n) (k % n) s j)
       (entry_small from_data.says (k / n) (k % n) data_rules from_data.rows (omega (arith, speed_count_lem)) (omega (arith, torque_count_lem)))
 
-  pub is_map : valid_map r.grid after ≡ true
+  pub is_map : valid_map grid after ≡ true
   is_map =
-      let m = r.grid.speeds.count in
-      let n = r.grid.torques.count in
-      let t = r.grid.torques.numbers in
+      let m = grid.speeds.count in
+      let n = grid.torques.count in
+      let t = grid.torques.numbers in
       let two : 2 ≤ n = omega (arith, data_rules.torques.at_least, torque_count_lem) in
       let t0 : get_or from_data.says.torques 0 0 ≡ get_or t 0 0 = ap (λ (x : List ℕ). get_or x 0 0) from_data.torques ∙ get_or-take n t 0 0 (omega arith) in
       let t1 : get_or from_data.says.torques 1 0 ≡ get_or t 1 0 = ap (λ (x : List ℕ). get_or x 1 0) from_data.torques ∙ get_or-take n t 1 0 (omega arith) in
-      map_of_lem r.grid after
+      map_of_lem grid after
       (record {
         axes = record {
           speeds = axis_kept _ _ _ _ _ data_rules.speeds from_data.speeds b.counts.speeds_length;
@@ -188,5 +178,5 @@ module _ (bytes before after : List ℕ) (are_bytes : AreBytes bytes) (r : Built
         small = entry_limit;
       })
     where
-      product : points from_data.says ≡ r.grid.speeds.count * r.grid.torques.count
+      product : points from_data.says ≡ grid.speeds.count * grid.torques.count
       product = rw (speed_count_lem, torque_count_lem)

@@ -1,14 +1,14 @@
 -- `map::build_entries` meets its contract. Assumes nothing.
-use mathlib.Core.Path.{refl}
-use native.Mathlib.Omega.{arith}
-use native.Mathlib.Nat.{sub-zero}
-use lib.ListN.{length-take}
+use Rattle.std.proofs.Common.{refl}
+use Rattle.map.proofs.ReadData.{short, standard_built, measured_built}
 use Rattle.map.proofs.build_entries.Goals as goal
 
-pub slice_bounds-build_points-end : goal.slice_bounds-build_points-end
-slice_bounds-build_points-end c =
-    omega (arith, length-take c.args.c.grid.torques.count c.args.c.grid.torques.numbers, c.requires.0.counts.torques_length)
+pub returns-then-entries-points : goal.returns-then-entries-points
+returns-then-entries-points c = short c.args.component.now c.requires.counts _ refl _ c.if-entries-points.true
 
-pub build_points-requires : goal.build_points-requires
-build_points-requires c =
-    (c.requires.0, rw sub-zero refl, c.requires.1)
+pub returns-in-None : goal.returns-in-None
+returns-in-None c = standard_built c.args.component.now c.requires.counts _ refl _ _ c.if-entries-points.false c.in-None.is c.build_standard.ensures
+
+pub returns-in-Some : goal.returns-in-Some
+returns-in-Some c =
+    measured_built c.args.component.now c.requires.counts _ refl _ _ c.if-entries-points.false _ c.in-Some.is c.new-bench.result c.new-bench.ensures c.build_measured.result c.build_measured.ensures.answer c.build_measured.ensures.entries_written
