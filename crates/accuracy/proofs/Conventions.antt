@@ -21,9 +21,9 @@ use Rattle.loss.proofs.Lines.{line_of_usable}
 use Rattle.loss.proofs.Rounding.{under_zero_is}
 use Rattle.loss.proofs.Values.{standard_numerator, standard_loss_is}
 use Rattle.map.specs.Build.{points, point_index, data_bench}
+use Rattle.std.specs.Prelude.{Ok}
+use Rattle.grid.specs.declared.Grid.{Grid}
 use Rattle.map.specs.Answers.{Builds}
-use Rattle.map.specs.declared.Built.{Built}
-use Rattle.refusal.specs.declared.Answer.TheVariants.{Accepted}
 use Rattle.grid.proofs.Points.{row_within}
 use Rattle.map.specs.Acceptance.{PointRules}
 use Rattle.map.proofs.Acceptance.{rows_right}
@@ -65,21 +65,21 @@ point_defined c i j (measured input outputs rows) h l k r = record {
   not_under_zero = r.loss;
 }
 
-module _ (bytes before after : List ℕ) (r : Built) (are_bytes : AreBytes bytes) (b : Builds bytes before after r) (yes : r.answer ≡ Accepted) where
+module _ (bytes before after : List ℕ) (are_bytes : AreBytes bytes) (grid : Grid) (b : Builds bytes before after (Ok grid)) where
   abbrev said : Component
-  said = (from_data bytes before after are_bytes r b yes).says
+  said = (from_data bytes before after are_bytes grid b).says
 
   enough : points said ≤ length after
   enough =
-      let d = from_data bytes before after are_bytes r b yes in
-      let m : length d.says.speeds ≡ r.grid.speeds.count = ap length d.speeds ∙ b.counts.speeds_length in
-      let n : length d.says.torques ≡ r.grid.torques.count = ap length d.torques ∙ b.counts.torques_length in
-      rw (m, n) (map_facts r.grid after (is_map bytes before after are_bytes r b yes)).enough
+      let d = from_data bytes before after are_bytes grid b in
+      let m : length d.says.speeds ≡ grid.speeds.count = ap length d.speeds ∙ b.counts.speeds_length in
+      let n : length d.says.torques ≡ grid.torques.count = ap length d.torques ∙ b.counts.torques_length in
+      rw (m, n) (map_facts grid after (is_map bytes before after are_bytes grid b)).enough
 
   pub defined : Defined bytes said after
   defined =
-      let d = from_data bytes before after are_bytes r b yes in
-      let rules = data_rules bytes before after are_bytes r b yes in
+      let d = from_data bytes before after are_bytes grid b in
+      let rules = data_rules bytes before after are_bytes grid b in
       let usable = line_of_usable said.line in
       record {
         first_line = rules.line.0;

@@ -21,9 +21,8 @@ use Rattle.loss.specs.Measured.{AllInRange}
 use Rattle.rows.specs.Rows.{outputs_at, row_at}
 use Rattle.rows.proofs.RowSensors.{outputs_count}
 use Rattle.map.specs.Build.{point_start, entry, entry_of_kind, check, check_of_kind, speed_check, rows_check}
+use Rattle.std.specs.Prelude.{Ok}
 use Rattle.map.specs.Answers.{Builds}
-use Rattle.map.specs.declared.Built.{Built}
-use Rattle.refusal.specs.declared.Answer.TheVariants.{Accepted}
 use Rattle.rows.proofs.Acceptance.{row_right}
 use Rattle.map.proofs.Valid.{from_data, data_rules, entry_there, is_map}
 use Rattle.cell.specs.Cell.{Point, Within, Cell, Has, entry_at}
@@ -119,24 +118,24 @@ module _ (c : Component) (grid : Grid) (entries : List ℕ) (valid : valid_map g
 
 -- ---- from the bytes
 
-module _ (bytes before after : List ℕ) (r : Built) (are_bytes : AreBytes bytes) (b : Builds bytes before after r) (yes : r.answer ≡ Accepted) where
+module _ (bytes before after : List ℕ) (are_bytes : AreBytes bytes) (grid : Grid) (b : Builds bytes before after (Ok grid)) where
   -- what the data says
   abbrev pub said : Component
-  said = (from_data bytes before after are_bytes r b yes).says
+  said = (from_data bytes before after are_bytes grid b).says
 
   -- each entry as near as its kind allows
   pub built_entries_near : EntriesAccurate (excess_of said.kind) said.speeds said.torques (entry_at (length said.torques) after) (exact_at said)
   built_entries_near i j h l =
-      let d = from_data bytes before after are_bytes r b yes in
-      let m : length d.says.speeds ≡ r.grid.speeds.count = ap length d.speeds ∙ b.counts.speeds_length in
-      let n : length d.says.torques ≡ r.grid.torques.count = ap length d.torques ∙ b.counts.torques_length in
+      let d = from_data bytes before after are_bytes grid b in
+      let m : length d.says.speeds ≡ grid.speeds.count = ap length d.speeds ∙ b.counts.speeds_length in
+      let n : length d.says.torques ≡ grid.torques.count = ap length d.torques ∙ b.counts.torques_length in
       let there : get_or after (i * length d.says.torques + j) 0 ≡ entry d.says i j =
-      rw n (entry_there bytes before after are_bytes r b yes i j (omega arith) (omega arith)) in
-      rw there (entry_near d.says (data_rules bytes before after are_bytes r b yes) d.rows i j h l)
+      rw n (entry_there bytes before after are_bytes grid b i j (omega arith) (omega arith)) in
+      rw there (entry_near d.says (data_rules bytes before after are_bytes grid b) d.rows i j h l)
 
-  built_accurate : Accurate bytes r.grid after
+  built_accurate : Accurate bytes grid after
   built_accurate =
-      let d = from_data bytes before after are_bytes r b yes in
+      let d = from_data bytes before after are_bytes grid b in
       let near : EntriesAccurate 2 d.says.speeds d.says.torques (entry_at (length d.says.torques) after) (exact_at d.says) =
       λ i j h l. wider (excess_most d.says.kind) (built_entries_near i j h l) in
       record {
@@ -147,7 +146,7 @@ module _ (bytes before after : List ℕ) (r : Built) (are_bytes : AreBytes bytes
         one_number = λ i j h l. exact_number d.says i j;
         fractions_near = λ i j n h l pos. fractions_near (exact_number d.says i j) (near i j h l) n pos;
         entries_near = near;
-        answers = answered_at d.says r.grid after (is_map bytes before after are_bytes r b yes) (sym d.speeds) (sym d.torques) near;
+        answers = answered_at d.says grid after (is_map bytes before after are_bytes grid b) (sym d.speeds) (sym d.torques) near;
       }
 
   -- "kind 1": an entry is less than 0.01 Nm above its exact value

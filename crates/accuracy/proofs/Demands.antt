@@ -18,9 +18,8 @@ use Rattle.loss.specs.Measured.{Output, Row}
 use Rattle.map.specs.Build.{LossMap, points, build}
 use Rattle.map.specs.Acceptance.{PointFault, Reason, in_data, too_few, in_row}
 use Rattle.rows.specs.Acceptance.{OutputsFault, RowFault, input_above, output_above, off_axis, negative, too_large}
+use Rattle.std.specs.Prelude.{Err}
 use Rattle.map.specs.Answers.{Builds}
-use Rattle.map.specs.declared.Built.{Built}
-use Rattle.refusal.specs.declared.Answer.TheVariants.{Refused}
 use Rattle.map.proofs.Acceptance.{build_refused}
 
 -- ---- the refusals of a build
@@ -117,7 +116,5 @@ pub build_ends : (bytes : List ℕ) (lent : ℕ) → AreBytes bytes → Ends (bu
 build_ends bytes lent are_bytes = ends_by (build bytes lent) (build bytes lent) refl (of_build bytes lent are_bytes)
 
 -- a refused build leaves the lent entries as they were
-pub refused_leaves : (bytes before after : List ℕ) (r : Built) (x : Refusal) → Builds bytes before after r → r.answer ≡ Refused x → after ≡ before
-refused_leaves bytes before after r x b e =
-    let o : refused (told x) ≡ build bytes (length before) = rw e at b.outcome in
-    rw (← o) at b.written
+pub refused_leaves : (bytes before after : List ℕ) (x : Refusal) → Builds bytes before after (Err x) → after ≡ before
+refused_leaves bytes before after x b = rw (← b.outcome) at b.written

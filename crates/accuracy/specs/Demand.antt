@@ -1,5 +1,5 @@
 -- Document 01, "Accuracy over whole numbers": demand 3 as one statement, from bytes through an accepted build to the answers over the axes and entries that it leaves. Losses are in hundredths of Nm.
-use Rattle.std.specs.Prelude.{ℕ, ◌<◌, ◌≡◌, List, ℤ, length, get_or}
+use Rattle.std.specs.Prelude.{ℕ, ◌<◌, ◌≡◌, List, ℤ, length, get_or, Ok}
 use Rattle.refusal.specs.Outcome.{accepted}
 use Rattle.grid.specs.Map.{speeds_of, torques_of}
 use Rattle.grid.specs.declared.Grid.{Grid}
@@ -8,8 +8,6 @@ use Rattle.layout.specs.Rules.{AreBytes}
 use Rattle.loss.specs.Exact.{Cut, IsNumber, Near, EntryAccurate, cut, exact_standard, exact_measured}
 use Rattle.map.specs.Build.{point_row}
 use Rattle.map.specs.Answers.{Builds}
-use Rattle.map.specs.declared.Built.{Built}
-use Rattle.refusal.specs.declared.Answer.TheVariants.{Accepted}
 use Rattle.cell.specs.Cell.{Point, Within, Cell, Has, entry_at}
 use Rattle.lookup.specs.Loss.{loss_answer}
 use Rattle.accuracy.specs.Claim.{OneStretch, Figures, Held}
@@ -62,6 +60,6 @@ pub record Accurate (bytes : List ℕ) (grid : Grid) (entries : List ℕ) : Type
       → EntryAccurate 2 (exact_at says i j) (entry_at (length says.torques) entries i j)
   pub answers : (p : Point) → Within says.speeds says.torques p → Answered says grid entries p
 
--- the premises are that bytes are bytes, what `build` promises of its answer, and that it accepts
+-- the premises are that bytes are bytes, and what `build` promises where it answers these axes
 abbrev pub Demand3 : Type 0
-Demand3 = (bytes before after : List ℕ) (r : Built) → AreBytes bytes → Builds bytes before after r → r.answer ≡ Accepted → Accurate bytes r.grid after
+Demand3 = (bytes before after : List ℕ) → AreBytes bytes → (grid : Grid) → Builds bytes before after (Ok grid) → Accurate bytes grid after
