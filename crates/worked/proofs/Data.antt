@@ -10,11 +10,13 @@ use lib.ListN.{length, get_or}
 use Rattle.arith.specs.Quotient.{quotient_up}
 use Rattle.arith.specs.Root.{root_up}
 use Rattle.arith.specs.Fraction.{◌less◌over◌, ◌over◌, whole, ◌⊕◌, ◌⊖◌, ◌⊗◌, larger}
+use Rattle.std.proofs.Common.{Ok}
 use Rattle.refusal.specs.Outcome.{accepted, refuse, first_refusal}
 use Rattle.grid.specs.Axis.{within, rises, axis_number, axis_numbers, first_step}
 use Rattle.grid.specs.Lists.{tabulate, joined}
 use Rattle.grid.specs.Every.{every}
 use Rattle.grid.specs.Parts.{grid_of}
+use Rattle.grid.specs.declared.Grid.{Grid}
 use Rattle.grid.proofs.Every.{every_at}
 use Rattle.fields.specs.Bytes.{pairs}
 use Rattle.fields.specs.Field.{head, field, number, axis}
@@ -27,8 +29,6 @@ use Rattle.loss.specs.Measured.{grains_up, temperature_on_sensitivity, temperatu
 use Rattle.rows.specs.Rows.{torque_at, outputs_at, row_at, near_axis, outputs_check, row_check}
 use Rattle.map.specs.Build.{entry_of_kind, entry, check_of_kind, check, speed_check, rows_check, speed_entries, entries, map_of, build}
 use Rattle.map.specs.Answers.{Builds}
-use Rattle.map.specs.declared.Built.{Built}
-use Rattle.refusal.specs.declared.Answer.TheVariants.{Accepted}
 use Rattle.accuracy.specs.Demand.{Accurate}
 use Rattle.accuracy.proofs.Demand.{demand3}
 use Rattle.worked.specs.Data.{standard_data, measured_data, half_shafts_data, refused_data}
@@ -43,20 +43,19 @@ module _ (bytes : List ℕ) (s t u v a b c d : ℕ) where
   abbrev MapIs : Type 0
   MapIs = build bytes 4 ≡ accepted (record { speeds = s ∷ t ∷ []; torques = u ∷ v ∷ []; entries = a ∷ b ∷ c ∷ d ∷ [] })
 
-  abbrev built : Built
-  built = record { answer = Accepted; grid = grid_of (s ∷ t ∷ []) 2 (u ∷ v ∷ []) 2 }
+  abbrev axes : Grid
+  axes = grid_of (s ∷ t ∷ []) 2 (u ∷ v ∷ []) 2
 
   module _ (e : MapIs) where
-    is_built : Builds bytes (0 ∷ 0 ∷ 0 ∷ 0 ∷ []) (a ∷ b ∷ c ∷ d ∷ []) built
+    is_built : Builds bytes (0 ∷ 0 ∷ 0 ∷ 0 ∷ []) (a ∷ b ∷ c ∷ d ∷ []) (Ok axes)
     is_built = record {
       outcome = sym e;
       written = rw e;
       counts = record { speeds = omega arith; torques = omega arith; speeds_length = refl; torques_length = refl };
-      unstated = tt;
     }
 
-    accurate : AreBytes bytes → Accurate bytes built.grid (a ∷ b ∷ c ∷ d ∷ [])
-    accurate are = demand3 bytes (0 ∷ 0 ∷ 0 ∷ 0 ∷ []) (a ∷ b ∷ c ∷ d ∷ []) built are is_built refl
+    accurate : AreBytes bytes → Accurate bytes axes (a ∷ b ∷ c ∷ d ∷ [])
+    accurate are = demand3 bytes (0 ∷ 0 ∷ 0 ∷ 0 ∷ []) (a ∷ b ∷ c ∷ d ∷ []) are axes is_built
 
 -- ---- kind 1
 pub standard_accurate : Accurate standard_data (grid_of (100 ∷ 200 ∷ []) 2 (0 ∷ 1000 ∷ []) 2) (13000 ∷ 15041 ∷ 13000 ∷ 15041 ∷ [])

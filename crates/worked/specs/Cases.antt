@@ -12,7 +12,8 @@ use Rattle.buffer.specs.Bytes.{bytes}
 use Rattle.report.specs.Report.{report}
 use Rattle.cell.specs.Cell.{Point}
 use Rattle.lookup.specs.Loss.{loss_answer}
-use Rattle.lookup.specs.Nearest.{GridPoint, nearest_answer}
+use Rattle.lookup.specs.declared.GridPoint.{GridPoint}
+use Rattle.lookup.specs.Nearest.{nearest_answer}
 use Rattle.worked.specs.Data.{standard_data}
 
 -- what is computed, and what document 01 has
