@@ -5,7 +5,7 @@ use native.Mathlib.Omega.{by_contra}
 use native.Mathlib.Decide.{dec_lt, dec_le}
 use native.Mathlib.Nat.{le_of_lt, lt_of_lt_of_le, mul-le-mul_left}
 use borrow.Author.Tests.{leb-true, leb-false, le-leb, lt-leb}
-use Rattle.grid.specs.Map.{speeds_of, torques_of, valid_grid, valid_map}
+use Rattle.grid.specs.Map.{counted_numbers, valid_grid, valid_map}
 use Rattle.grid.specs.declared.Grid.{Grid}
 use Rattle.grid.specs.declared.Range.{Range}
 use Rattle.grid.specs.Rules.{AxisRules}
@@ -46,7 +46,7 @@ module _ (range : Range) (most : ℕ) (ns : List ℕ) (count : ℕ) (f : AxisRul
         rw (get_or-take count ns k 0 g, get_or-take count ns (k + 1) 0 h) (f.rising k h);
   }
 
-pub grid_axes : (grid : Grid) → valid_grid grid ≡ true → RisingAxes (speeds_of grid.speeds) (torques_of grid.torques)
+pub grid_axes : (grid : Grid) → valid_grid grid ≡ true → RisingAxes (counted_numbers grid.speeds) (counted_numbers grid.torques)
 grid_axes grid e =
     let f = grid_facts grid e in
     let n = grid.torques.count in
@@ -62,13 +62,13 @@ grid_axes grid e =
 pub map_grid : (grid : Grid) (entries : List ℕ) → valid_map grid entries ≡ true → (valid_map grid entries ≡ true) × (valid_grid grid ≡ true)
 map_grid grid entries e = (e, grid_of_lem grid (map_facts grid entries e).axes)
 
-pub map_axes : (grid : Grid) (entries : List ℕ) → valid_map grid entries ≡ true → RisingAxes (speeds_of grid.speeds) (torques_of grid.torques)
+pub map_axes : (grid : Grid) (entries : List ℕ) → valid_map grid entries ≡ true → RisingAxes (counted_numbers grid.speeds) (counted_numbers grid.torques)
 map_axes grid entries e = grid_axes grid (map_grid grid entries e).1
 
 -- how many numbers there are; the first part shows `grind` where this applies
 pub grid_counts : (grid : Grid) → valid_grid grid ≡ true →
-    (valid_grid grid ≡ true) × (2 ≤ grid.speeds.count) × (grid.speeds.count ≤ 32) × (length (speeds_of grid.speeds) ≡ grid.speeds.count)
-    × (2 ≤ grid.torques.count) × (grid.torques.count ≤ 64) × (length (torques_of grid.torques) ≡ grid.torques.count)
+    (valid_grid grid ≡ true) × (2 ≤ grid.speeds.count) × (grid.speeds.count ≤ 32) × (length (counted_numbers grid.speeds) ≡ grid.speeds.count)
+    × (2 ≤ grid.torques.count) × (grid.torques.count ≤ 64) × (length (counted_numbers grid.torques) ≡ grid.torques.count)
 grid_counts grid e =
     let f = grid_facts grid e in
     (e, f.speeds.at_least, f.speeds.at_most, count_taken _ _ _ _ f.speeds, f.torques.at_least, f.torques.at_most, count_taken _ _ _ _ f.torques)

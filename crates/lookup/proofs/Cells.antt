@@ -2,7 +2,7 @@
 use Rattle.std.proofs.Common.{◌≡◌, ℕ, ◌+◌, ◌*◌, ◌≤◌, ◌<◌, true, List, length, sym, arith}
 use Rattle.std.proofs.lemmas.List.{get_or-take}
 use native.Mathlib.Nat.{add-mul, mul-le-mul_right}
-use Rattle.grid.specs.Map.{speeds_of, torques_of, valid_map}
+use Rattle.grid.specs.Map.{counted_numbers, valid_map}
 use Rattle.grid.specs.Rules.{MapRules}
 use Rattle.grid.specs.declared.Grid.{Grid}
 use Rattle.grid.proofs.Map.{map_facts}
@@ -16,14 +16,14 @@ use Rattle.lookup.proofs.Weights.{ceiling_interpolation}
 in_grid : (i j n m : ℕ) → i + 1 < n → j + 1 < m → i * m + j + m + 1 < n * m
 in_grid i j n m p q = let h : i + 2 ≤ n = omega arith in omega (arith, add-mul i 2 m, mul-le-mul_right m h)
 
-module _ (grid : Grid) (entries : List ℕ) (p : Point) (valid : valid_map grid entries ≡ true) (w : Within (speeds_of grid.speeds) (torques_of grid.torques) p) where
+module _ (grid : Grid) (entries : List ℕ) (p : Point) (valid : valid_map grid entries ≡ true) (w : Within (counted_numbers grid.speeds) (counted_numbers grid.torques) p) where
   rules : MapRules grid entries
   rules = map_facts grid entries valid
 
   abbrev pub k : Cell
-  k = cell_of (speeds_of grid.speeds) (torques_of grid.torques) p
+  k = cell_of (counted_numbers grid.speeds) (counted_numbers grid.torques) p
 
-  has : Has (speeds_of grid.speeds) (torques_of grid.torques) p k
+  has : Has (counted_numbers grid.speeds) (counted_numbers grid.torques) p k
   has = cell_has _ _ (map_axes grid entries valid) p w
 
   speed_in : k.speed + 1 < grid.speeds.count
@@ -44,7 +44,7 @@ module _ (grid : Grid) (entries : List ℕ) (p : Point) (valid : valid_map grid 
   }
 
   -- the numbers in the arrays are those of the axes
-  same_numbers : cell_numbers grid.speeds.numbers grid.torques.numbers grid.torques.count entries k ≡ cell_numbers (speeds_of grid.speeds) (torques_of grid.torques) (length (torques_of grid.torques)) entries k
+  same_numbers : cell_numbers grid.speeds.numbers grid.torques.numbers grid.torques.count entries k ≡ cell_numbers (counted_numbers grid.speeds) (counted_numbers grid.torques) (length (counted_numbers grid.torques)) entries k
   unfolding cell_numbers
   same_numbers =
       let n = grid.speeds.count in
@@ -72,6 +72,6 @@ module _ (grid : Grid) (entries : List ℕ) (p : Point) (valid : valid_map grid 
         e11 = small _ (omega arith);
       }
 
-  pub loss_of_cell : ceiling (interpolation (cell_numbers grid.speeds.numbers grid.torques.numbers grid.torques.count entries k) p) ≡ loss_at (speeds_of grid.speeds) (torques_of grid.torques) entries p
+  pub loss_of_cell : ceiling (interpolation (cell_numbers grid.speeds.numbers grid.torques.numbers grid.torques.count entries k) p) ≡ loss_at (counted_numbers grid.speeds) (counted_numbers grid.torques) entries p
   unfolding loss_at
   loss_of_cell = rw same_numbers (sym (ceiling_interpolation _ _ (map_axes grid entries valid) p k has entries))

@@ -10,7 +10,7 @@ use native.Mathlib.Omega.{by_contra}
 use native.Mathlib.Nat.{le_refl}
 use borrow.Author.Tests.{ltb-true, ltb-false}
 use Rattle.refusal.specs.Outcome.{accepted}
-use Rattle.grid.specs.Map.{speeds_of, torques_of, valid_grid}
+use Rattle.grid.specs.Map.{counted_numbers, valid_grid}
 use Rattle.grid.specs.declared.Grid.{Grid}
 use Rattle.cell.specs.Cell.{Point}
 use Rattle.lookup.specs.Nearest.{distance, nearest_index, nearest_number, nearest_point, GridPoint, nearest_answer}
@@ -62,6 +62,6 @@ nearest_law ns r scale v =
 
 -- axes that keep their rules: the answer is the nearest number of each
 pub nearest_answered : (grid : Grid) (p : Point) → valid_grid grid ≡ true →
-    (g : GridPoint) × (nearest_answer grid p ≡ accepted g) × Nearest (speeds_of grid.speeds) 10 p.speed g.speed × Nearest (torques_of grid.torques) 100 p.torque g.torque
+    (g : GridPoint) × (nearest_answer grid p ≡ accepted g) × Nearest (counted_numbers grid.speeds) 10 p.speed g.speed × Nearest (counted_numbers grid.torques) 100 p.torque g.torque
 unfolding nearest_answer
 nearest_answered grid p e = let axes = grid_axes grid e in (nearest_point grid p, rw e, nearest_law _ axes.speeds 10 p.speed, nearest_law _ axes.torques 100 p.torque)

@@ -13,7 +13,7 @@ use Rattle.arith.proofs.Fractions.{rounds_up_same}
 use Rattle.refusal.specs.Outcome.{accepted, refuse, ◌>>=◌, require}
 use Rattle.refusal.proofs.Steps.{test_accepted, same_value}
 use Rattle.grid.proofs.Every.{and_false, and_fst, and_snd}
-use Rattle.grid.specs.Map.{speeds_of, torques_of, valid_map}
+use Rattle.grid.specs.Map.{counted_numbers, valid_map}
 use Rattle.grid.specs.declared.Grid.{Grid}
 use Rattle.cell.specs.Cell.{Point, Within, Cell, Has, sum, corners, entry_at}
 use Rattle.lookup.specs.Loss.{cell_of, loss_at, loss_answer}
@@ -37,32 +37,32 @@ module _ (grid : Grid) (entries : List ℕ) (p : Point) where
 
   module _ (valid : valid_map grid entries ≡ true) where
     -- the speed is outside its axis
-    pub speed_refused : (p.speed < 10 * get_or (speeds_of grid.speeds) 0 0) ⊎ (10 * get_or (speeds_of grid.speeds) (length (speeds_of grid.speeds) - 1) 0 < p.speed) → loss_answer grid entries p ≡ refuse 20 0
+    pub speed_refused : (p.speed < 10 * get_or (counted_numbers grid.speeds) 0 0) ⊎ (10 * get_or (counted_numbers grid.speeds) (length (counted_numbers grid.speeds) - 1) 0 < p.speed) → loss_answer grid entries p ≡ refuse 20 0
     unfolding loss_answer
     speed_refused (inl l) = rw (valid, lt-leb _ _ l)
     speed_refused (inr l) =
-        let first = leb (10 * get_or (speeds_of grid.speeds) 0 0) p.speed in
-        let last = 10 * get_or (speeds_of grid.speeds) (length (speeds_of grid.speeds) - 1) 0 in
+        let first = leb (10 * get_or (counted_numbers grid.speeds) 0 0) p.speed in
+        let last = 10 * get_or (counted_numbers grid.speeds) (length (counted_numbers grid.speeds) - 1) 0 in
         let e : leb p.speed last ≡ false = lt-leb p.speed last l in
         rw (valid, e, and_false first)
 
     -- the torque is above its axis
-    pub torque_refused : 10 * get_or (speeds_of grid.speeds) 0 0 ≤ p.speed → p.speed ≤ 10 * get_or (speeds_of grid.speeds) (length (speeds_of grid.speeds) - 1) 0 → 100 * get_or (torques_of grid.torques) (length (torques_of grid.torques) - 1) 0 < p.torque → loss_answer grid entries p ≡ refuse 21 0
+    pub torque_refused : 10 * get_or (counted_numbers grid.speeds) 0 0 ≤ p.speed → p.speed ≤ 10 * get_or (counted_numbers grid.speeds) (length (counted_numbers grid.speeds) - 1) 0 → 100 * get_or (counted_numbers grid.torques) (length (counted_numbers grid.torques) - 1) 0 < p.torque → loss_answer grid entries p ≡ refuse 21 0
     unfolding loss_answer
     torque_refused a b l = rw (valid, le-leb _ _ a, le-leb _ _ b, lt-leb _ _ l)
 
     -- every query within the limits is answered
-    pub loss_answered : Within (speeds_of grid.speeds) (torques_of grid.torques) p → loss_answer grid entries p ≡ accepted (loss_at (speeds_of grid.speeds) (torques_of grid.torques) entries p)
+    pub loss_answered : Within (counted_numbers grid.speeds) (counted_numbers grid.torques) p → loss_answer grid entries p ≡ accepted (loss_at (counted_numbers grid.speeds) (counted_numbers grid.torques) entries p)
     unfolding loss_answer
     loss_answered w = rw (valid, le-leb _ _ w.from, le-leb _ _ w.upto, le-leb _ _ w.top)
 
   -- an answer is the loss at a point within the limits of a map
   pub answered_within : (z : ℤ) → loss_answer grid entries p ≡ accepted z →
-      (valid_map grid entries ≡ true) × Within (speeds_of grid.speeds) (torques_of grid.torques) p × (z ≡ loss_at (speeds_of grid.speeds) (torques_of grid.torques) entries p)
+      (valid_map grid entries ≡ true) × Within (counted_numbers grid.speeds) (counted_numbers grid.torques) p × (z ≡ loss_at (counted_numbers grid.speeds) (counted_numbers grid.torques) entries p)
   unfolding loss_answer
   answered_within z e =
-      let speeds = speeds_of grid.speeds in
-      let torques = torques_of grid.torques in
+      let speeds = counted_numbers grid.speeds in
+      let torques = counted_numbers grid.torques in
       let first = leb (10 * get_or speeds 0 0) p.speed in
       let last = leb p.speed (10 * get_or speeds (length speeds - 1) 0) in
       let top = leb p.torque (100 * get_or torques (length torques - 1) 0) in

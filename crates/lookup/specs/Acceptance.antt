@@ -1,7 +1,7 @@
 -- A question to a map is answered exactly when no refusal applies: 22, 20 and 21, in this order, said of each number.
 use Rattle.std.specs.Prelude.{ℕ, ◌-◌, ◌*◌, ◌≤◌, ◌<◌, ◌≡◌, List, ◌⊎◌, ℤ, length, get_or}
 use Rattle.refusal.specs.Outcome.{Told, refusal, accepted, refused}
-use Rattle.grid.specs.Map.{speeds_of, torques_of}
+use Rattle.grid.specs.Map.{counted_numbers}
 use Rattle.grid.specs.Rules.{GridRules, MapRules}
 use Rattle.grid.specs.declared.Grid.{Grid}
 use Rattle.cell.specs.Cell.{Point, Within}
@@ -10,13 +10,13 @@ use Rattle.lookup.specs.Nearest.{GridPoint, nearest_point, nearest_answer}
 
 -- the ends of the axes, in the units of a query
 abbrev pub lowest_speed : Grid → ℕ
-lowest_speed grid = 10 * get_or (speeds_of grid.speeds) 0 0
+lowest_speed grid = 10 * get_or (counted_numbers grid.speeds) 0 0
 
 abbrev pub highest_speed : Grid → ℕ
-highest_speed grid = 10 * get_or (speeds_of grid.speeds) (length (speeds_of grid.speeds) - 1) 0
+highest_speed grid = 10 * get_or (counted_numbers grid.speeds) (length (counted_numbers grid.speeds) - 1) 0
 
 abbrev pub highest_torque : Grid → ℕ
-highest_torque grid = 100 * get_or (torques_of grid.torques) (length (torques_of grid.torques) - 1) 0
+highest_torque grid = 100 * get_or (counted_numbers grid.torques) (length (counted_numbers grid.torques) - 1) 0
 
 -- why a query is refused: the condition of its row of the table, those of the rows tested before not holding
 pub data QueryFault (grid : Grid) (entries : List ℕ) (p : Point) (told : Told) : Type 0 where
@@ -30,10 +30,10 @@ pub data QueryFault (grid : Grid) (entries : List ℕ) (p : Point) (told : Told)
 
 -- a loss is answered exactly within the limits of a map, and is the one of the definition; it is refused exactly for its reason
 pub record LossDecided (grid : Grid) (entries : List ℕ) (p : Point) : Type 0 where
-  pub answered : MapRules grid entries → Within (speeds_of grid.speeds) (torques_of grid.torques) p
-      → loss_answer grid entries p ≡ accepted (loss_at (speeds_of grid.speeds) (torques_of grid.torques) entries p)
+  pub answered : MapRules grid entries → Within (counted_numbers grid.speeds) (counted_numbers grid.torques) p
+      → loss_answer grid entries p ≡ accepted (loss_at (counted_numbers grid.speeds) (counted_numbers grid.torques) entries p)
   pub answered_only : (z : ℤ) → loss_answer grid entries p ≡ accepted z
-      → MapRules grid entries × Within (speeds_of grid.speeds) (torques_of grid.torques) p × (z ≡ loss_at (speeds_of grid.speeds) (torques_of grid.torques) entries p)
+      → MapRules grid entries × Within (counted_numbers grid.speeds) (counted_numbers grid.torques) p × (z ≡ loss_at (counted_numbers grid.speeds) (counted_numbers grid.torques) entries p)
   pub refused_for : (told : Told) → QueryFault grid entries p told → loss_answer grid entries p ≡ refused told
   pub refused_only : (told : Told) → loss_answer grid entries p ≡ refused told → QueryFault grid entries p told
 

@@ -2,7 +2,7 @@
 use Rattle.std.specs.Prelude.{ℕ, zero, suc, ◌-◌, ◌*◌, Bool, ◌&&◌, cond, List, leb, ℤ, length, get_or}
 use Rattle.arith.specs.Fraction.{whole}
 use Rattle.refusal.specs.Outcome.{Outcome, accepted, ◌>>=◌, require}
-use Rattle.grid.specs.Map.{speeds_of, torques_of, valid_map}
+use Rattle.grid.specs.Map.{counted_numbers, valid_map}
 use Rattle.grid.specs.declared.Grid.{Grid}
 use Rattle.cell.specs.Cell.{Point, Cell, sum, corners, entry_at}
 use Rattle.cell.specs.Rounding.{ceiling}
@@ -28,8 +28,8 @@ loss_at speeds torques entries p =
 -- 22 is tested first, then 20, then 21
 unfoldable pub loss_answer : Grid → (entries : List ℕ) → Point → Outcome ℤ
 loss_answer grid entries p =
-    let speeds = speeds_of grid.speeds in
-    let torques = torques_of grid.torques in
+    let speeds = counted_numbers grid.speeds in
+    let torques = counted_numbers grid.torques in
     do
       _ ← require (valid_map grid entries) 22 0
       _ ← require (leb (10 * get_or speeds 0 0) p.speed && leb p.speed (10 * get_or speeds (length speeds - 1) 0)) 20 0

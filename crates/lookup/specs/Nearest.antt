@@ -1,7 +1,7 @@
 -- Document 01, "Loss at a point and nearest point": the nearest number of each axis by itself, the lower one where two are equally near.
 use Rattle.std.specs.Prelude.{ℕ, zero, suc, ◌+◌, ◌-◌, ◌*◌, cond, List, ltb, length, get_or}
 use Rattle.refusal.specs.Outcome.{Outcome, accepted, ◌>>=◌, require}
-use Rattle.grid.specs.Map.{speeds_of, torques_of, valid_grid}
+use Rattle.grid.specs.Map.{counted_numbers, valid_grid}
 use Rattle.grid.specs.declared.Grid.{Grid}
 use Rattle.cell.specs.Cell.{Point}
 pub use Rattle.lookup.specs.declared.GridPoint.{GridPoint}
@@ -24,8 +24,8 @@ nearest_number ns scale v = get_or ns (nearest_index ns scale v (length ns)) 0
 -- the nearest point of a grid
 abbrev pub nearest_point : Grid → Point → GridPoint
 nearest_point grid p = record {
-  speed = nearest_number (speeds_of grid.speeds) 10 p.speed;
-  torque = nearest_number (torques_of grid.torques) 100 p.torque;
+  speed = nearest_number (counted_numbers grid.speeds) 10 p.speed;
+  torque = nearest_number (counted_numbers grid.torques) 100 p.torque;
 }
 
 -- 22 where an axis breaks its rules; no entry is asked for

@@ -3,7 +3,7 @@
 
 ghost use Rattle.std.specs.Prelude.{◌≡◌, true, ℕ, ◌*◌, ◌<◌, ◌≤◌, length, slice_index, EachIndex, MatchOption};
 ghost use Rattle.refusal.specs.Table.{outcome_of};
-ghost use Rattle.grid.specs.Map.{speeds_of, torques_of, valid_map};
+ghost use Rattle.grid.specs.Map.{counted_numbers, valid_map};
 ghost use Rattle.cell.specs.Cell.{Within};
 ghost use Rattle.lookup.specs.Loss.{neighbour, loss_at, loss_answer};
 ghost use Rattle.lookup.specs.Nearest.{distance, nearest_number, nearest_answer};
@@ -43,9 +43,10 @@ pub fn loss(grid: &Grid, entries: &[u32], speed: u32, torque: u32) -> Result<i64
 #[tactic(auto, using(crate::proofs::Axes::counts))]
 fn loss_within(grid: &Grid, entries: &[u32], speed: u64, torque: u64) -> i64
     requires is_map { valid_map grid.now entries.now ≡ true }
-    requires within { Within (speeds_of grid.now.speeds) (torques_of grid.now.torques) (record { speed = speed; torque = torque }) }
+    requires within { Within (counted_numbers grid.now.speeds) (counted_numbers grid.now.torques)
+        (record { speed = speed; torque = torque }) }
     ensures { result ≡
-        loss_at (speeds_of grid.now.speeds) (torques_of grid.now.torques) entries.now
+        loss_at (counted_numbers grid.now.speeds) (counted_numbers grid.now.torques) entries.now
         (record { speed = speed; torque = torque }) }
 {
     let i = neighbour(&grid.speeds.numbers[..grid.speeds.count], 10, speed);
