@@ -10,7 +10,7 @@ use lib.ListN.{length, get_or}
 use Rattle.refusal.specs.Outcome.{accepted}
 use Rattle.refusal.proofs.Steps.{placed_accepted}
 use Rattle.refusal.proofs.First.{first_all}
-use Rattle.grid.specs.Map.{speeds_of, torques_of, valid_map}
+use Rattle.grid.specs.Map.{counted_numbers, valid_map}
 use Rattle.grid.specs.declared.Grid.{Grid}
 use Rattle.component.specs.Component.{Component, Kind, standard, measured}
 use Rattle.sensor.specs.declared.Sensor.{Sensor}
@@ -93,7 +93,7 @@ one_stretch torques p = record { one = go (dec_le (100 * get_or torques 0 0) p.t
 
 -- ---- the answers over a map that has these axes, and entries that are so near
 
-module _ (c : Component) (grid : Grid) (entries : List ℕ) (valid : valid_map grid entries ≡ true) (s : speeds_of grid.speeds ≡ c.speeds) (t : torques_of grid.torques ≡ c.torques) where
+module _ (c : Component) (grid : Grid) (entries : List ℕ) (valid : valid_map grid entries ≡ true) (s : counted_numbers grid.speeds ≡ c.speeds) (t : counted_numbers grid.torques ≡ c.torques) where
   axes : RisingAxes c.speeds c.torques
   axes = rw (s, t) at (map_axes grid entries valid)
 

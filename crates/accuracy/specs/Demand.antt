@@ -1,7 +1,7 @@
 -- Document 01, "Accuracy over whole numbers": demand 3 as one statement, from bytes through an accepted build to the answers over the axes and entries that it leaves. Losses are in hundredths of Nm.
 use Rattle.std.specs.Prelude.{ℕ, ◌<◌, ◌≡◌, List, ℤ, length, get_or, Ok}
 use Rattle.refusal.specs.Outcome.{accepted}
-use Rattle.grid.specs.Map.{speeds_of, torques_of}
+use Rattle.grid.specs.Map.{counted_numbers}
 use Rattle.grid.specs.declared.Grid.{Grid}
 use Rattle.component.specs.Component.{Component, Kind, standard, measured, component}
 use Rattle.layout.specs.Rules.{AreBytes}
@@ -49,8 +49,8 @@ pub record Accurate (bytes : List ℕ) (grid : Grid) (entries : List ℕ) : Type
   pub says : Component
   pub read : component bytes ≡ accepted says
   -- the map has the axes that the data says
-  pub speeds : speeds_of grid.speeds ≡ says.speeds
-  pub torques : torques_of grid.torques ≡ says.torques
+  pub speeds : counted_numbers grid.speeds ≡ says.speeds
+  pub torques : counted_numbers grid.torques ≡ says.torques
   -- each exact entry is one number
   pub one_number : (i j : ℕ) → i < length says.speeds → j < length says.torques → IsNumber (exact_at says i j)
   -- and has fractions on both sides as near to each other as may be asked, so that what is said of all fractions is said of the number itself

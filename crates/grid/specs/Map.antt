@@ -9,12 +9,6 @@ use Rattle.grid.specs.declared.Grid.{Grid}
 abbrev pub counted_numbers : {places : ℕ} → Axis places → List ℕ
 counted_numbers axis = take axis.count axis.numbers
 
-abbrev pub speeds_of : Axis 32 → List ℕ
-speeds_of axis = counted_numbers axis
-
-abbrev pub torques_of : Axis 64 → List ℕ
-torques_of axis = counted_numbers axis
-
 -- tag 4: 2 to 32 speeds, 1 to 3,000 rpm each, rising
 unfoldable pub valid_speeds : List ℕ → ℕ → Bool
 valid_speeds ns count = valid_numbers 32 (1 to 3000) ns count

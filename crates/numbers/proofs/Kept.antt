@@ -10,7 +10,7 @@ use lib.ListN.{length, take, length-take, get_or-eq_default}
 use Rattle.refusal.specs.Outcome.{accepted, without_place}
 use Rattle.refusal.proofs.Steps.{then_accepted, test_accepted, require_accepted, placed_accepted}
 use Rattle.grid.specs.Axis.{◌to◌, within, first_step}
-use Rattle.grid.specs.Map.{torques_of}
+use Rattle.grid.specs.Map.{counted_numbers}
 use Rattle.grid.specs.Rules.{InRange, AxisRules, FirstStep}
 use Rattle.grid.specs.declared.Range.{Range}
 use Rattle.grid.specs.declared.Grid.{Grid}
@@ -86,7 +86,7 @@ module _ (most : ℕ) (range : Range) (ns : List ℕ) (count : ℕ) where
 record AxesKept (grid : Grid) : Type 0 where
   speeds : AxisKept 32 (1 to 3000) grid.speeds.numbers grid.speeds.count
   torques : AxisKept 64 (0 to 50000) grid.torques.numbers grid.torques.count
-  step : FirstStep (torques_of grid.torques)
+  step : FirstStep (counted_numbers grid.torques)
 
 axes_right : (grid : Grid) → axes_check grid ≡ accepted tt → AxesKept grid
 unfolding axes_check first_step

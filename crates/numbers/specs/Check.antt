@@ -2,7 +2,7 @@
 use Rattle.std.specs.Prelude.{ℕ, ◌*◌, List, [], ◌∷◌, eqb, take, if◌then◌else◌}
 use Rattle.refusal.specs.Outcome.{Outcome, accepted, ◌>>=◌, require, without_place}
 use Rattle.grid.specs.Axis.{◌to◌, within, axis_numbers, first_step}
-use Rattle.grid.specs.Map.{torques_of}
+use Rattle.grid.specs.Map.{counted_numbers}
 use Rattle.grid.specs.declared.Range.{Range}
 use Rattle.grid.specs.declared.Grid.{Grid}
 use Rattle.sensor.specs.Sensor.{sensor_check, sensor_numbers}
@@ -28,7 +28,7 @@ unfoldable pub axes_check : Grid → Outcome (Unit {0})
 axes_check grid = do
   _ ← axis_check 32 (1 to 3000) grid.speeds.numbers grid.speeds.count
   _ ← axis_check 64 (0 to 50000) grid.torques.numbers grid.torques.count
-  require (first_step (torques_of grid.torques)) 6 0
+  require (first_step (counted_numbers grid.torques)) 6 0
 
 -- sensors, one after another
 unfoldable pub sensors_check : List Sensor → Outcome (Unit {0})

@@ -1,6 +1,6 @@
 -- Document 02, C-12: what numbers that are handed over say as component data, and the numbers that component data says.
 use Rattle.std.specs.Prelude.{ℕ, zero, suc, ◌+◌, ◌≡◌, List, [], ◌∷◌, length}
-use Rattle.grid.specs.Map.{speeds_of, torques_of}
+use Rattle.grid.specs.Map.{counted_numbers}
 use Rattle.grid.specs.Parts.{grid_of}
 use Rattle.grid.specs.declared.Grid.{Grid}
 use Rattle.sensor.specs.declared.Sensor.{Sensor}
@@ -13,7 +13,7 @@ use Rattle.numbers.specs.declared.Numbers.{Numbers}
 -- the rows: a torque has four bytes, and the first row stands after the head of their field
 abbrev pub rows_said : (kind : ℕ) → Grid → (row_torques : List ℕ) → Rows
 rows_said kind grid row_torques = record {
-  start = rows_head kind (length (speeds_of grid.speeds)) (length (torques_of grid.torques)) + 3;
+  start = rows_head kind (length (counted_numbers grid.speeds)) (length (counted_numbers grid.torques)) + 3;
   bytes = torque_bytes row_torques;
 }
 
@@ -23,15 +23,15 @@ says g row_torques = record {
   kind = kind_of g.kind g.input (outputs_of g.kind g.output g.right) (rows_said g.kind g.grid row_torques);
   line = g.line;
   ratio = g.ratio;
-  speeds = speeds_of g.grid.speeds;
-  torques = torques_of g.grid.torques;
+  speeds = counted_numbers g.grid.speeds;
+  torques = counted_numbers g.grid.torques;
 }
 
 -- the counts among the numbers are those of what they say: the kind, which is the number of sensors of a measured kind, and how many numbers each axis has
 pub record CountsSaid (g : Numbers) (row_torques : List ℕ) : Type 0 where
   pub kind : kind_number (says g row_torques).kind ≡ g.kind
-  pub speeds : length (speeds_of g.grid.speeds) ≡ g.grid.speeds.count
-  pub torques : length (torques_of g.grid.torques) ≡ g.grid.torques.count
+  pub speeds : length (counted_numbers g.grid.speeds) ≡ g.grid.speeds.count
+  pub torques : length (counted_numbers g.grid.torques) ≡ g.grid.torques.count
 
 -- the numbers keep every rule of the fields
 pub record NumbersRules (g : Numbers) (row_torques : List ℕ) : Type 0 where

@@ -3,8 +3,6 @@ use Rattle.std.specs.Prelude.{ℕ, Result, Ok, Err}
 use Rattle.refusal.specs.Outcome.{Told, refusal, Outcome, accepted, refused}
 use Rattle.refusal.specs.declared.Refusal.{Refusal}
 use Rattle.refusal.specs.declared.Refusal.TheVariants.{Incomplete, WrongTag, WrongLength, OutOfRange, NotRising, FirstTorqueAboveStep, AboveNominal, OffAxisTorque, NegativeLoss, EntryTooLarge, TooShort, TrailingBytes, SpeedOutside, TorqueAbove, NotAMap, FileTooShort}
-use Rattle.refusal.specs.declared.Answer.{Answer}
-use Rattle.refusal.specs.declared.Answer.TheVariants.{Accepted, Refused}
 
 abbrev pub number : Refusal → ℕ
 number (Incomplete p) = 1
@@ -45,12 +43,7 @@ place (FileTooShort p) = p
 abbrev pub told : Refusal → Told
 told r = refusal (number r) (place r)
 
--- an answer with no value of its own
-abbrev pub answer_says : Answer → Outcome (Unit {0})
-answer_says Accepted = accepted tt
-answer_says (Refused x) = refused (told x)
-
--- what an answer with a value says in document 01's terms
+-- what an answer says in document 01's terms
 abbrev pub outcome_of : {A : Type 0} → Result A Refusal → Outcome A
 outcome_of (Ok value) = accepted value
 outcome_of (Err x) = refused (told x)

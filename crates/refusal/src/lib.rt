@@ -123,10 +123,3 @@ impl fmt::Display for Refusal {
         write!(f, "refused {} at {}", self.number(), self.place())
     }
 }
-
-// What comes of a call whose value, if it has one, stands beside the answer.
-#[derive(Clone, Copy)]
-pub enum Answer {
-    Accepted,
-    Refused(Refusal),
-}

@@ -8,7 +8,7 @@ use lib.Seq.{get_or-take}
 use Rattle.refusal.specs.Outcome.{accepted, refused}
 use Rattle.refusal.specs.Table.{told, outcome_of}
 use Rattle.refusal.specs.declared.Refusal.{Refusal}
-use Rattle.grid.specs.Map.{speeds_of, torques_of}
+use Rattle.grid.specs.Map.{counted_numbers}
 use Rattle.grid.specs.Parts.{grid_of}
 use Rattle.grid.specs.declared.Grid.{Grid}
 use native.Mathlib.Nat.{mul-le-mul, zero-min, min-zero, suc-min-suc, sub-zero}
@@ -46,7 +46,7 @@ module _ (speeds torques entries : List ℕ) (m n : ℕ) where
 
 pub listing_same : (grid : Grid) (entries : List ℕ) → CountsWithin grid
     → listing grid entries
-    ≡ listing (grid_of (speeds_of grid.speeds) (length (speeds_of grid.speeds)) (torques_of grid.torques) (length (torques_of grid.torques))) (take (grid.speeds.count * grid.torques.count) entries)
+    ≡ listing (grid_of (counted_numbers grid.speeds) (length (counted_numbers grid.speeds)) (counted_numbers grid.torques) (length (counted_numbers grid.torques))) (take (grid.speeds.count * grid.torques.count) entries)
 unfolding listing
 listing_same grid entries w =
     rw (w.speeds_length, w.torques_length, rows_same grid.speeds.numbers grid.torques.numbers entries grid.speeds.count grid.torques.count)

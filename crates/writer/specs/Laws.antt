@@ -2,7 +2,7 @@
 use Rattle.std.specs.Prelude.{ℕ, ◌*◌, ◌≤◌, ◌<◌, ◌≡◌, List, length, get_or, take}
 use Rattle.refusal.specs.Outcome.{accepted, refuse}
 use Rattle.grid.specs.Lists.{overwritten}
-use Rattle.grid.specs.Map.{speeds_of, torques_of}
+use Rattle.grid.specs.Map.{counted_numbers}
 use Rattle.component.specs.Component.{Component, component}
 use Rattle.layout.specs.Layout.{torque_bytes, torques_in}
 use Rattle.layout.specs.Rules.{AreBytes, FitFourBytes}
@@ -52,9 +52,9 @@ pub record Alike (g h : Numbers) (row_torques others : List ℕ) : Type 0 where
   pub kind : g.kind ≡ h.kind
   pub line : g.line ≡ h.line
   pub ratio : g.ratio ≡ h.ratio
-  pub speeds : speeds_of g.grid.speeds ≡ speeds_of h.grid.speeds
+  pub speeds : counted_numbers g.grid.speeds ≡ counted_numbers h.grid.speeds
   pub speed_count : g.grid.speeds.count ≡ h.grid.speeds.count
-  pub torques : torques_of g.grid.torques ≡ torques_of h.grid.torques
+  pub torques : counted_numbers g.grid.torques ≡ counted_numbers h.grid.torques
   pub torque_count : g.grid.torques.count ≡ h.grid.torques.count
   pub measured : (g.kind ≡ 1 → ⊥) → (g.input ≡ h.input) × (g.output ≡ h.output) × (row_torques ≡ others)
   pub three_sensors : g.kind ≡ 3 → g.right ≡ h.right

@@ -1,6 +1,6 @@
 -- `encoding::encode` meets its contract. Assumes nothing.
 use Rattle.std.proofs.Common.{rules}
-use Rattle.grid.specs.Map.{speeds_of, torques_of}
+use Rattle.grid.specs.Map.{counted_numbers}
 use Rattle.layout.specs.Layout.{two_bytes, layout}
 use Rattle.numbers.proofs.Kept.{sizes, kind_said}
 use Rattle.buffer.proofs.Appending.{appends_then}
@@ -13,5 +13,5 @@ returns c =
     let g = c.args.numbers.now in
     let rows = c.args.rows.now in
     let kind = kind_said g rows (sizes g rows c.requires.passed).kind in
-    rw (kind, ← flat_map_encoded two_bytes (speeds_of g.grid.speeds), ← flat_map_encoded two_bytes (torques_of g.grid.torques))
+    rw (kind, ← flat_map_encoded two_bytes (counted_numbers g.grid.speeds), ← flat_map_encoded two_bytes (counted_numbers g.grid.torques))
     (search (rules, appends_then) depth 7)
