@@ -1,5 +1,5 @@
 -- Laws of bytes that are written one after another. Assumes nothing.
-use Rattle.std.proofs.Common.{◌≡◌, ◌≤◌, ◌<◌, ◌+◌, ◌∙◌, ℕ, zero, suc, List, [], ◌++◌, arith, length, take, drop, refl, add-one, zero-add, append_assoc, length-append, length-drop}
+use Rattle.std.proofs.Common.{◌≡◌, ◌≤◌, ◌<◌, ◌+◌, ◌∙◌, ℕ, zero, suc, List, [], ◌++◌, arith, length, take, drop, refl, add-one, zero-add, append_assoc, length-append}
 use Rattle.std.proofs.lemmas.List.{length-take}
 use Rattle.std.proofs.lemmas.Grind.{common_steps}
 use Rattle.std.proofs.Math.Seq.{take-append_seam, drop-append-add, drop-drop}
@@ -60,11 +60,7 @@ joined_part text i (suc count) h =
     (λ (l : i < suc count). simp length-append (omega (arith, joined_part text i count (le_of_suc-le-suc l))))
     (eq-or-lt_of_le h)
 
--- none of them written yet, and one more after those that are
-pub appends_none : (text : ℕ → List ℕ) (writer : Writer) → HasRoom 0 writer → Appends (joined text 0) writer writer
-unfolding joined
-appends_none text writer room = appends_nothing writer room
-
+-- one more after those that are written
 module _ (text : ℕ → List ℕ) (i : ℕ) {old between : Writer} (a : Appends (joined text i) old between) where
   pub appends_next : {new : Writer} → Appends (text i) between new → Appends (joined text (i + 1)) old new
   unfolding joined

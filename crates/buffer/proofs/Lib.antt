@@ -1,3 +1,2 @@
 pub mod Digits
 pub mod Appending
-pub mod Fitted

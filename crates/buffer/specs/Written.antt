@@ -17,7 +17,7 @@ pub record Appends (bytes : List ℕ) (old new : Writer) : Type 0 where
   pub holds : new.text.now ≡ take old.at old.text.now ++ bytes ++ drop (old.at + length bytes) old.text.now
 
 -- the length of a text, where there is room for it; else this number with the length needed
-unfoldable pub fitted : (number : ℕ) (text : List ℕ) (room : ℕ) → Outcome ℕ
+abbrev pub fitted : (number : ℕ) (text : List ℕ) (room : ℕ) → Outcome ℕ
 fitted number text room = do
   _ ← require (leb (length text) room) number (length text)
   accepted (length text)

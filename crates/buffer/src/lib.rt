@@ -7,7 +7,8 @@ ghost use Rattle.buffer.specs.Written.{HasRoom, Appends};
 
 // How many digits a number has. The short ones, which a listing is made of, are told by comparing alone.
 pub fn digit_count(n: usize) -> usize
-    ensures { (result ≡ digit_count n) × (result ≤ 20) }
+    ensures answer { result ≡ digit_count n }
+    ensures at_most { result ≤ 20 }
 {
     match n {
         0..=9 => 1,

@@ -1,10 +1,9 @@
 // Lays out numbers as the fields of component data, in a lent buffer.
-#![tactic(auto)]
+#![tactic(auto, using(crate::proofs::Encoded::fields))]
 
 ghost use Rattle.std.specs.Prelude.{ℕ, List, ◌≡◌, [], ◌∷◌, ◌+◌, ◌*◌, ◌≤◌, ◌<◌, length, refl};
 ghost use Rattle.std.specs.List.{flat_map};
 ghost use Rattle.refusal.specs.Outcome.{accepted};
-ghost use Rattle.grid.specs.Lists.{overwritten};
 ghost use Rattle.component.specs.Component.{sensor_tags};
 ghost use Rattle.component.specs.Answers.{outputs_of};
 ghost use Rattle.layout.specs.Layout.{two_bytes, four_bytes, field_bytes, sensor_bytes, measured_bytes, layout};
@@ -74,7 +73,6 @@ impl FieldNumber for u32 {
 }
 
 // Writes the field of numbers: its tag, the length of its body, and the numbers.
-#[tactic(auto, unfolding(layout::specs::Layout::field_bytes))]
 fn write_field<T: FieldNumber>(tag: u8, numbers: &[T], file: &mut Writer)
     requires size { T.SIZE * length numbers.now < 65536 }
     requires room { HasRoom (3 + T.SIZE * length numbers.now) file.old }
@@ -89,7 +87,6 @@ fn write_field<T: FieldNumber>(tag: u8, numbers: &[T], file: &mut Writer)
 }
 
 // The sensors of a measured kind.
-#[tactic(auto, using(layout::proofs::FieldBytes::length_field_bytes, crate::proofs::Encoded::length_pairs, crate::proofs::Encoded::flat_map_encoded), unfolding(layout::specs::Layout::sensor_bytes, component::specs::Component::output_tags))]
 fn write_sensors(numbers: &Numbers, file: &mut Writer)
     requires { HasRoom 63 file.old }
     ensures sensors { Appends
@@ -105,7 +102,6 @@ fn write_sensors(numbers: &Numbers, file: &mut Writer)
 }
 
 // From tag 6 on; data of kind 1 ends there. The sensors take at most 63 bytes, and the rows 24,579.
-#[tactic(auto, using(numbers::proofs::Kept::sizes, crate::proofs::Encoded::flat_map_encoded))]
 fn write_measured(numbers: &Numbers, rows: &[u32], file: &mut Writer)
     requires passed { numbers_check numbers.now (length rows.now) ≡ accepted tt }
     requires room { HasRoom 24642 file.old }
@@ -118,17 +114,17 @@ fn write_measured(numbers: &Numbers, rows: &[u32], file: &mut Writer)
 }
 
 // Lays out numbers that passed their tests, with the torques of their rows.
-#[tactic(auto, using(numbers::proofs::Kept::sizes, layout::proofs::FieldBytes::length_field_bytes, crate::proofs::Encoded::length_pairs))]
 pub fn encode(numbers: &Numbers, rows: &[u32], file: &mut Writer)
     requires passed { numbers_check numbers.now (length rows.now) ≡ accepted tt }
     requires room { HasRoom longest file.old }
     ensures { Appends (layout (says numbers.now rows.now)) file.old file.new }
 {
-    let grid = &numbers.grid;
+    let speeds = &numbers.grid.speeds;
+    let torques = &numbers.grid.torques;
     write_field(1, &[numbers.kind as u8], file);
     write_field(2, &[numbers.line as u8], file);
     write_field(3, &[numbers.ratio], file);
-    write_field(4, &grid.speeds.numbers[..grid.speeds.count], file);
-    write_field(5, &grid.torques.numbers[..grid.torques.count], file);
+    write_field(4, &speeds.numbers[..speeds.count], file);
+    write_field(5, &torques.numbers[..torques.count], file);
     write_measured(numbers, rows, file);
 }

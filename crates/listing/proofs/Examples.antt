@@ -11,7 +11,6 @@ use Rattle.grid.specs.Map.{valid_speeds, valid_torques, valid_grid, valid_entrie
 use Rattle.grid.specs.Parts.{grid_of}
 use Rattle.buffer.specs.Bytes.{bytes}
 use Rattle.listing.specs.Listing.{header, line, row, rows, listing, refusal_line, listed}
-use Rattle.buffer.specs.Written.{fitted}
 use Rattle.buffer.specs.Digits.{digit_count_by, digit_count, decimal, hundredths}
 
 -- what is computed, and what is expected
@@ -45,5 +44,5 @@ examples =
     ∷ []
 
 hold : Hold examples
-unfolding Hold examples grid entries digit_count_by digit_count decimal hundredths header line row rows listing refusal_line fitted listed valid_map valid_grid valid_entries valid_speeds valid_torques valid_numbers first_step within rises every joined
+unfolding Hold examples grid entries digit_count_by digit_count decimal hundredths header line row rows listing refusal_line valid_map valid_grid valid_entries valid_speeds valid_torques valid_numbers first_step within rises every joined
 hold = (refl, (refl, (refl, (refl, (refl, (refl, (refl, (refl, (refl, tt)))))))))

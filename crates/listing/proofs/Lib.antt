@@ -1,4 +1,4 @@
 pub mod Lengths
-pub mod Fitted
 pub mod Parts
+pub mod Sets
 pub mod Examples

@@ -44,7 +44,7 @@ unfoldable pub refusal_line : Told → List ℕ
 refusal_line t = bytes "refused " ++ decimal t.number ++ bytes " at " ++ decimal t.place ++ bytes "\n"
 
 -- ---- what is answered: 22 is tested before 11, whose place is the listing's length
-unfoldable pub listed : Grid → List ℕ → (room : ℕ) → Outcome ℕ
+abbrev pub listed : Grid → List ℕ → (room : ℕ) → Outcome ℕ
 listed grid entries room = do
   _ ← require (valid_map grid entries) 22 0
   fitted 11 (listing grid entries) room

@@ -1,5 +1,5 @@
 // The listing of a map and the line of a refusal, written as text to the first bytes of a lent buffer.
-#![tactic(auto, using(crate::proofs::Lengths::length_line, crate::proofs::Lengths::length_listing, crate::proofs::Lengths::length_refusal_line, crate::proofs::Parts::row_of_parts, buffer::proofs::Digits::length_decimal, buffer::proofs::Digits::length_hundredths, buffer::proofs::Appending::joined_grows, buffer::proofs::Appending::appended_first, grid::proofs::Map::map_facts), unfolding(crate::specs::Listing::row, crate::specs::Listing::rows, crate::specs::Listing::listed, buffer::specs::Written::fitted, grid::specs::Lists::joined))]
+#![tactic(auto, using(crate::proofs::Sets::texts), unfolding(grid::specs::Lists::joined, crate::specs::Listing::row, crate::specs::Listing::rows))]
 
 ghost use Rattle.std.specs.Prelude.{◌≡◌, ◌*◌, ◌≤◌, length};
 ghost use Rattle.refusal.specs.Outcome.{refusal};
@@ -10,6 +10,9 @@ ghost use Rattle.listing.specs.Listing.{line, row, rows, refusal_line, listing, 
 use buffer::Writer;
 use grid::Grid;
 use refusal::Refusal;
+
+// The first line of a listing.
+const HEADER: [u8; 18] = *b"speed,torque,loss\n";
 
 // How many bytes the line of one entry takes.
 fn line_length(speed: u16, torque: u16, loss: u32) -> usize
@@ -66,7 +69,7 @@ fn listing_length(grid: &Grid, entries: &[u32]) -> usize
 {
     let speeds = &grid.speeds.numbers[..grid.speeds.count];
     let torques = &grid.torques.numbers[..grid.torques.count];
-    let mut total = 18;
+    let mut total = HEADER.len();
     for (i, speed) in speeds.iter().enumerate() {
         let first = i * torques.len();
         total += row_length(*speed, torques, &entries[first..first + torques.len()]);
@@ -83,7 +86,7 @@ fn write_listing(grid: &Grid, entries: &[u32], text: &mut Writer)
 {
     let speeds = &grid.speeds.numbers[..grid.speeds.count];
     let torques = &grid.torques.numbers[..grid.torques.count];
-    text.bytes(b"speed,torque,loss\n");
+    text.bytes(&HEADER);
     for (i, speed) in speeds.iter().enumerate() {
         let first = i * torques.len();
         write_row(

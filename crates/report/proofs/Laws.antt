@@ -1,32 +1,31 @@
 -- The report of a build: the refusal's line, or the listing of the map that it left. Assumes nothing.
-use Prim.Native.Nat.{ℕ, zero, suc, min, ◌+◌, ◌-◌, ◌*◌, ◌≤◌, ◌<◌}
-use mathlib.Core.Path.{◌≡◌, refl, sym, ap, ◌∙◌}
-use mathlib.Core.List.{List, [], ◌∷◌}
+use Prim.Native.Nat.{ℕ, ◌+◌, ◌*◌, ◌≤◌, ◌<◌}
+use mathlib.Core.Path.{◌≡◌, refl, ◌∙◌}
+use mathlib.Core.Bool.{true}
+use mathlib.Core.List.{List}
+use native.Mathlib.Nat.{mul-le-mul}
 use native.Mathlib.Omega.{arith}
+use borrow.Author.Tests.{le-leb}
 use lib.ListN.{length, length-append, take}
 use lib.Seq.{get_or-take}
+use Rattle.std.specs.Prelude.{Result}
 use Rattle.refusal.specs.Outcome.{accepted, refused}
 use Rattle.refusal.specs.Table.{told, outcome_of}
 use Rattle.refusal.specs.declared.Refusal.{Refusal}
-use Rattle.grid.specs.Map.{counted_numbers}
+use Rattle.grid.specs.Map.{counted_numbers, valid_map}
 use Rattle.grid.specs.Parts.{grid_of}
 use Rattle.grid.specs.declared.Grid.{Grid}
-use native.Mathlib.Nat.{mul-le-mul, zero-min, min-zero, suc-min-suc, sub-zero}
+use Rattle.grid.proofs.Lists.{joined_same}
+use Rattle.grid.proofs.Points.{row_within}
 use Rattle.component.specs.Component.{Component, component}
 use Rattle.component.specs.Answers.{CountsWithin}
 use Rattle.layout.specs.Rules.{AreBytes}
 use Rattle.layout.proofs.Theorems.{sound}
 use Rattle.layout.proofs.Lengths.{beginning_decides}
-use Rattle.map.specs.Build.{points, build}
-use Rattle.map.specs.Answers.{Builds}
-use Rattle.grid.proofs.Lists.{joined_same}
-use Rattle.grid.proofs.Points.{row_within}
-use Rattle.map.proofs.Valid.{is_map}
-use Rattle.listing.specs.Listing.{listing, rows, row, row_of_speed, refusal_line, listed}
+use Rattle.map.specs.Build.{points, build, content}
+use Rattle.map.specs.Answers.{map_left}
 use Rattle.buffer.specs.Written.{fitted, content_of}
-use Rattle.std.specs.Prelude.{Result, Ok, Err}
-use Rattle.listing.proofs.Fitted.{listed_map}
-use Rattle.buffer.proofs.Fitted.{fitted_whole}
+use Rattle.listing.specs.Listing.{listing, rows, row, row_of_speed, refusal_line, listed}
 use Rattle.listing.proofs.Lengths.{listing_most}
 use Rattle.report.specs.Report.{report_of, report, Reports, ProgramWrites, text_length, LimitLosesNothing}
 
@@ -51,36 +50,37 @@ unfolding listing
 listing_same grid entries w =
     rw (w.speeds_length, w.torques_length, rows_same grid.speeds.numbers grid.torques.numbers entries grid.speeds.count grid.torques.count)
 
--- ---- what is reported
-module _ (bytes before after text_before text_after : List ℕ) (r : Result ℕ Refusal) where
-  pub refusal_reported : (x : Refusal) → Builds bytes before after (Err x)
-      → (outcome_of r ≡ fitted 11 (refusal_line (told x)) (length text_before)) × ((text_after ≡ content_of (outcome_of r) (refusal_line (told x)) text_before) × (length (refusal_line (told x)) ≤ 53))
+-- ---- what is reported of a build that left the entries so
+module _ (bytes before after text_before text_after : List ℕ) (r : Result ℕ Refusal) (entries : after ≡ content (build bytes (length before)) before) where
+  pub refusal_reported : (x : Refusal) → refused (told x) ≡ build bytes (length before)
+      → outcome_of r ≡ fitted 11 (refusal_line (told x)) (length text_before)
+      → text_after ≡ content_of (outcome_of r) (refusal_line (told x)) text_before
+      → length (refusal_line (told x)) ≤ 53
       → Reports bytes before after text_before text_after r
   unfolding report report_of
-  refusal_reported x b h =
-      let q : refused (told x) ≡ build bytes (length before) = b.outcome in
-      record { answer = rw (← q) h.0; text = rw (← q) h.1.0; entries = b.written; short = rw (← q) (omega (arith, h.1.1)) }
+  refusal_reported x q answer text short =
+      record { answer = rw (← q) answer; text = rw (← q) text; entries = entries; short = rw (← q) (omega arith) }
 
-  pub map_reported : (grid : Grid) → Builds bytes before after (Ok grid) → AreBytes bytes
-      → (outcome_of r ≡ listed grid after (length text_before)) × (text_after ≡ content_of (outcome_of r) (listing grid after) text_before)
+  pub map_reported : (grid : Grid) → accepted (map_left after grid) ≡ build bytes (length before) → valid_map grid after ≡ true → CountsWithin grid
+      → outcome_of r ≡ listed grid after (length text_before)
+      → text_after ≡ content_of (outcome_of r) (listing grid after) text_before
       → Reports bytes before after text_before text_after r
   unfolding report report_of
-  map_reported grid b are_bytes h =
-      let q = b.outcome in
-      let v = is_map bytes before after are_bytes grid b in
-      let l = listing_same grid after b.counts in
+  map_reported grid q valid counts answer text =
+      let same = listing_same grid after counts in
       record {
-        answer = h.0 ∙ sym (listed_map grid after (length text_before) v) ∙ rw (← q, l) refl;
-        text = rw (← q, ← l) h.1;
-        entries = b.written;
-        short = rw (← q, ← l) (omega (arith, listing_most grid after v));
+        answer = rw valid at answer ∙ rw (← q, same) refl;
+        text = rw (← q, ← same) text;
+        entries = entries;
+        short = rw (← q, ← same) (omega (arith, listing_most grid after valid));
       }
 
 -- ---- with room for every report, the report is written
 pub always_whole : (bytes before after text_before text_after : List ℕ) (r : Result ℕ Refusal) → Reports bytes before after text_before text_after r → length text_before ≡ 65536
     → outcome_of r ≡ accepted (length (report bytes (length before)))
 always_whole bytes before after text_before text_after r h e =
-    h.answer ∙ sym (fitted_whole 11 (report bytes (length before)) (length text_before) (length (report bytes (length before))) refl (omega (arith, h.short)))
+    let room : length (report bytes (length before)) ≤ length text_before = omega (arith, h.short) in
+    h.answer ∙ rw (le-leb _ _ room)
 
 -- 2,048 entries are enough for every map
 pub enough_entries : (bytes : List ℕ) (c : Component) → AreBytes bytes → component bytes ≡ accepted c → points c ≤ 2048
@@ -92,15 +92,6 @@ enough_entries bytes c are_bytes e =
 pub limit_loses_nothing : LimitLosesNothing
 unfolding report build
 limit_loses_nothing bytes are_bytes = rw (beginning_decides bytes 32768 are_bytes (omega arith))
-
--- the bytes of the input that count
-take_within : (n : ℕ) (l : List ℕ) → take (min n (length l)) l ≡ take n l
-take_within zero l = ap (λ (k : ℕ). take k l) (zero-min (length l))
-take_within (suc n) [] = ap (λ (k : ℕ). take {A = ℕ} k []) (min-zero (suc n))
-take_within (suc n) (x ∷ xs) = ap (λ (k : ℕ). take k (x ∷ xs)) (suc-min-suc n (length xs)) ∙ ap (λ (r : List ℕ). x ∷ r) (take_within n xs)
-
-pub counted_bytes : (input : List ℕ) (n count : ℕ) → length input ≡ 32768 → count ≡ min n 32768 → take (count - 0) input ≡ take n input
-counted_bytes input n count l e = ap (λ (k : ℕ). take k input) (sub-zero count ∙ e ∙ ap (min n) (sym l)) ∙ take_within n input
 
 -- the program's own room is enough for every output
 pub program_writes : (bytes before after text_before text_after : List ℕ) (r : Result ℕ Refusal) (n : ℕ) → length before ≡ 2048 → length text_before ≡ 65536

@@ -29,6 +29,6 @@ fn text_length(answer: Result<usize, Refusal>) -> usize
 pub fn program_output(input: &[u8], entries: &mut [u32; 2048], text: &mut [u8; 65536]) -> usize
     ensures { ProgramWrites (take 32768 input.now) entries.old entries.new text.old text.new result }
 {
-    let count = input.len().min(32768);
+    let count = input.len().min(32_768);
     text_length(write(&input[..count], entries, text))
 }

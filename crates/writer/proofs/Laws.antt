@@ -5,7 +5,7 @@ use mathlib.Core.Bool.{Bool, true, false}
 use mathlib.Core.List.{List, [], ◌∷◌}
 use native.Mathlib.Omega.{arith}
 use native.Mathlib.Decide.{ℕ_discrete}
-use borrow.Author.Tests.{eq-eqb, ne_eqb}
+use borrow.Author.Tests.{eq-eqb, ne_eqb, le-leb, lt-leb}
 use lib.Dec.{leb}
 use lib.ListN.{length, get_or, take, drop}
 use lib.Seq.{take-append_seam, take_all}
@@ -31,7 +31,6 @@ use Rattle.numbers.specs.Says.{rows_said, says, NumbersRules, numbers_of, row_to
 use Rattle.numbers.specs.declared.Numbers.{Numbers}
 use Rattle.numbers.proofs.Kept.{numbers_right, numbers_accepted}
 use Rattle.buffer.specs.Written.{fitted}
-use Rattle.buffer.proofs.Fitted.{fitted_short, fitted_whole}
 use Rattle.writer.specs.Written.{file_of, written, file_after}
 use Rattle.writer.specs.Laws.{DataFor, ReadBack, TorquesReadBack, WrittenAgain, AcceptedOnlyWithData, AcceptedWithData, NoRoom, Alike, NotLookedAt}
 use Rattle.writer.proofs.Writing.{build_of}
@@ -44,7 +43,7 @@ module _ (g : Numbers) (torques : List ℕ) where
     long : length (file_of g torques) ≡ n
 
   passed : (room n : ℕ) → written g torques room ≡ accepted n → Passed room n
-  unfolding written fitted
+  unfolding written
   passed room n e =
       let a = then_accepted (numbers_check g (length torques)) _ n e in
       let b = then_accepted (without_place (rows_check (says g torques))) _ n a.2 in
@@ -110,11 +109,11 @@ accepted_only_with_data g torques room n fit e =
 
 pub accepted_with_data : AcceptedWithData
 accepted_with_data g torques bytes before s h =
-    let answer = said_written g torques bytes s (length before) ∙ sym (fitted_whole 30 bytes (length before) (length bytes) refl h) in
+    let answer = said_written g torques bytes s (length before) ∙ rw (le-leb _ _ h) in
     (answer, rw (answer, (laid g torques bytes s).1))
 
 pub no_room : NoRoom
-no_room g torques bytes room s h = said_written g torques bytes s room ∙ sym (fitted_short 30 bytes room (length bytes) refl h)
+no_room g torques bytes room s h = said_written g torques bytes s room ∙ rw (lt-leb _ _ h)
 
 -- ---- the numbers of data say it
 module _ (line ratio : ℕ) (speeds torques : List ℕ) where

@@ -2,19 +2,15 @@
 use Prim.Native.Nat.{ℕ, ◌≤◌}
 use mathlib.Core.Path.{◌≡◌, refl, sym, ◌∙◌}
 use mathlib.Core.List.{List}
-use native.Mathlib.Nat.{mul-le-mul, zero-add, sub-zero}
+use native.Mathlib.Nat.{mul-le-mul}
 use borrow.Author.Tests.{le-leb}
-use lib.ListN.{length, drop}
-use lib.Seq.{take-append_seam}
+use lib.ListN.{length}
 use Rattle.refusal.specs.Outcome.{Outcome, accepted, refused, ◌>>=◌, without_place}
-use Rattle.refusal.specs.Table.{number, place, told, outcome_of}
+use Rattle.refusal.specs.Table.{told, outcome_of}
 use Rattle.refusal.specs.declared.Refusal.{Refusal}
-use Rattle.fields.specs.Bytes.{between}
 use Rattle.layout.specs.Rules.{FitFourBytes}
-use Rattle.layout.specs.Length.{longest}
 use Rattle.layout.proofs.Theorems.{complete}
-use Rattle.layout.proofs.Lengths.{laid_longest}
-use Rattle.map.specs.Build.{LossMap, points, rows_check, map_of, build}
+use Rattle.map.specs.Build.{points, rows_check, map_of, build}
 use Rattle.map.specs.Acceptance.{map_of_numbers}
 use Rattle.numbers.specs.Check.{numbers_check}
 use Rattle.buffer.specs.Written.{fitted, content_of}
@@ -30,17 +26,6 @@ goes_on : {A B : Type 0} (o : Outcome (Unit {0})) (a : A) (next : Outcome B)
 goes_on (accepted u) a next = refl
 goes_on (refused t) a next = refl
 
--- ---- the build of a file
-module _ (file : List ℕ) (lent room : ℕ) where
-  -- its refusal loses its place
-  pub rows_refused : (x y : Refusal) → refused (told x) ≡ build file lent → number y ≡ number x → place y ≡ 0 → refused (told y) ≡ after_build file lent room
-  unfolding after_build
-  rows_refused x y e n p = rw (← e, n, p)
-
-  pub rows_accepted : (m : LossMap) → accepted m ≡ build file lent → fitted 30 file room ≡ after_build file lent room
-  unfolding after_build
-  rows_accepted m e = rw (← e)
-
 module _ (g : Numbers) (torques : List ℕ) where
   -- numbers that keep their rules: what they are laid out as is read, and only its rows are left to test
   pub build_of : NumbersRules g torques → build (file_of g torques) 2048 ≡ (rows_check (says g torques) >>= λ _. accepted (map_of_numbers (says g torques)))
@@ -53,10 +38,6 @@ module _ (g : Numbers) (torques : List ℕ) where
   unfolding after_build written
   after_build_lem rules right room =
       rw (right, build_of rules) (goes_on (rows_check (says g torques)) (map_of_numbers (says g torques)) (fitted 30 (file_of g torques) room))
-
-  -- the longest data has room for them
-  pub laid_within : FitFourBytes torques → accepted tt ≡ numbers_check g (length torques) → length (file_of g torques) ≤ longest
-  laid_within fit right = laid_longest (says g torques) (numbers_right g torques fit (sym right)).rules
 
   -- ---- the answers of `write`
   pub numbers_refused : (before : List ℕ) (x : Refusal) → refused (told x) ≡ numbers_check g (length torques) → Writes g torques before before (Err x)

@@ -12,7 +12,6 @@ use numbers::Numbers;
 use refusal::Refusal;
 
 // Copies data to the first bytes of the file, where there is room for it.
-#[tactic(auto, unfolding(buffer::specs::Written::fitted))]
 fn write_fitting(data: &[u8], file: &mut [u8]) -> Result<usize, Refusal>
     ensures answer { outcome_of result ≡ fitted 30 «data».now (length file.old) }
     ensures file_after { file.new ≡ content_of (outcome_of result) «data».now file.old }

@@ -1,5 +1,5 @@
 -- `encoding::write_measured` meets its contract. Assumes nothing.
-use Rattle.std.proofs.Common.{ne_eqb, eq-eqb, rules}
+use Rattle.std.proofs.Common.{ne_eqb, eq-eqb, arith}
 use Rattle.layout.specs.Layout.{four_bytes, measured_bytes}
 use Rattle.numbers.proofs.Kept.{sizes, kind_said}
 use Rattle.buffer.proofs.Appending.{appends_then, appends_nothing}
@@ -19,4 +19,4 @@ returns-then-numbers-ne1 c =
 pub returns-else-numbers-ne1 : goal.returns-else-numbers-ne1
 unfolding measured_bytes
 returns-else-numbers-ne1 c =
-    rw (eq-eqb _ 1 c.if-numbers-ne1.false) (appends_nothing _ (search rules))
+    rw (eq-eqb _ 1 c.if-numbers-ne1.false) (appends_nothing _ (omega arith))
