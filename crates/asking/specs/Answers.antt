@@ -2,7 +2,6 @@
 use Rattle.std.specs.Prelude.{ℕ, ◌≡◌, List, Result, Ok, Err, IfOk}
 use Rattle.refusal.specs.Table.{outcome_of}
 use Rattle.refusal.specs.declared.Refusal.{Refusal}
-use Rattle.refusal.specs.declared.Answer.TheVariants.{Accepted, Refused}
 use Rattle.grid.specs.declared.Grid.{Grid}
 use Rattle.map.specs.Answers.{Builds}
 use Rattle.cell.specs.Cell.{Point}
@@ -10,15 +9,15 @@ use Rattle.lookup.specs.Loss.{loss_answer}
 use Rattle.accuracy.specs.Demand.{Accurate}
 use Rattle.asking.specs.declared.Asked.{Asked}
 
--- the build's answer: its grid beside the loss, or its refusal
-abbrev pub BuildAnswers : (bytes before after : List ℕ) → Result Asked Refusal → Type 0
-BuildAnswers bytes before after (Ok asked) = Builds bytes before after (record { answer = Accepted; grid = asked.grid })
-BuildAnswers bytes before after (Err x) = (grid : Grid) × Builds bytes before after (record { answer = Refused x; grid = grid })
+-- the build's answer: its grid, or its refusal
+abbrev pub build_of : Result Asked Refusal → Result Grid Refusal
+build_of (Ok asked) = Ok asked.grid
+build_of (Err x) = Err x
 
 -- what `ask` promises for all data, all lent entries and every point
 pub record Asks (bytes before after : List ℕ) (p : Point) (r : Result Asked Refusal) : Type 0 where
   -- the build's answer, and the whole content of the lent entries at exit
-  pub builds : BuildAnswers bytes before after r
+  pub builds : Builds bytes before after (build_of r)
   -- the loss at the point over the map, or why there is none
   pub asked : IfOk r (λ asked. outcome_of asked.loss ≡ loss_answer asked.grid after p)
   -- demand 3

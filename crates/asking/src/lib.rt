@@ -4,7 +4,7 @@
 ghost use Rattle.asking.specs.Answers.{Asks};
 
 use grid::Grid;
-use refusal::{Answer, Refusal};
+use refusal::Refusal;
 
 // The axes of the map that was built, and the answer to the query.
 #[derive(Clone, Copy)]
@@ -18,15 +18,7 @@ pub struct Asked {
 pub fn ask(data: &[u8], entries: &mut [u32], speed: u32, torque: u32) -> Result<Asked, Refusal>
     ensures { Asks «data».now entries.old entries.new (record { speed = speed; torque = torque }) result }
 {
-    let built = map::build(data, entries);
-    match built.answer {
-        Answer::Refused(refusal) => Err(refusal),
-        Answer::Accepted => {
-            let loss = lookup::loss(&built.grid, entries, speed, torque);
-            Ok(Asked {
-                grid: built.grid,
-                loss,
-            })
-        }
-    }
+    let grid = map::build(data, entries)?;
+    let loss = lookup::loss(&grid, entries, speed, torque);
+    Ok(Asked { grid, loss })
 }

@@ -1,58 +1,46 @@
 -- What the build's answer is for C, and demand 3 of what it leaves there. Assumes nothing.
-use Prim.Native.Nat.{ℕ}
-use mathlib.Core.Path.{◌≡◌, refl, ap}
-use mathlib.Core.List.{List}
-use native.Mathlib.Omega.{arith}
+use Rattle.std.proofs.Common.{ℕ, ◌≡◌, refl, ap, List, arith, length, take, Result, Ok, Err}
+use Rattle.std.specs.Result.{result_unwrap_or}
+use Rattle.refusal.proofs.Numbers.{number_between}
+use Rattle.refusal.specs.declared.Refusal.{Refusal}
+use Rattle.grid.specs.declared.Grid.{Grid}
 use Rattle.layout.specs.Rules.{AreBytes}
 use Rattle.map.specs.Build.{build}
-use Rattle.map.specs.Answers.{Unstated, answer_of, Builds}
-use Rattle.map.specs.declared.Built.{Built}
-use Rattle.refusal.specs.declared.Answer.{Answer}
-use Rattle.refusal.specs.declared.Answer.TheVariants.{Accepted, Refused}
+use Rattle.map.specs.Answers.{Builds}
 use Rattle.accuracy.proofs.Demand.{demand3}
-use lib.ListN.{length}
-use Rattle.refusal.proofs.Numbers.{number_between}
 use Rattle.axle.specs.Interface.{status_of}
 use Rattle.axle.specs.Build.{refusal_in, place_in, speeds_in, torques_in, BuildsForC}
 use Rattle.axle.specs.declared.Status.{Status}
 use Rattle.axle.specs.declared.AxleBuilt.{AxleBuilt}
 
 -- the answer for C, from the build's status and its grid
-abbrev pub for_c : Status → Built → AxleBuilt
-for_c s built = record {
+abbrev pub for_c : Status → Grid → AxleBuilt
+for_c s grid = record {
   refusal = s.refusal;
   place = s.place;
-  speeds = built.grid.speeds.numbers;
-  speed_count = built.grid.speeds.count;
-  torques = built.grid.torques.numbers;
-  torque_count = built.grid.torques.count;
+  speeds = grid.speeds.numbers;
+  speed_count = grid.speeds.count;
+  torques = grid.torques.numbers;
+  torque_count = grid.torques.count;
 }
 
-module _ (bytes before after : List ℕ) (built : Built) (are_bytes : AreBytes bytes) (b : Builds bytes before after built) where
-  by_answer : (a : Answer) → built.answer ≡ a → BuildsForC bytes before after (for_c (status_of a) built)
-  by_answer Accepted e =
-      let o : answer_of Accepted built.grid after ≡ build bytes (length before) = rw e at b.outcome in
-      record {
-        refusal = ap refusal_in o;
-        place = ap place_in o;
-        speeds = ap speeds_in o;
-        torques = ap torques_in o;
-        counts = (b.counts.speeds, b.counts.torques);
-        entries = b.written;
-        accurate = λ _. demand3 bytes before after built are_bytes b e;
-      }
-  by_answer (Refused x) e =
-      let o : answer_of (Refused x) built.grid after ≡ build bytes (length before) = rw e at b.outcome in
-      let empty : Unstated (Refused x) built.grid = rw e at b.unstated in
-      record {
-        refusal = ap refusal_in o;
-        place = ap place_in o;
-        speeds = rw empty.0 (ap speeds_in o);
-        torques = rw empty.1 (ap torques_in o);
-        counts = (b.counts.speeds, b.counts.torques);
-        entries = b.written;
-        accurate = λ none. absurd (omega (arith, (number_between x).0, none));
-      }
-
-  pub builds_for_c : (s : Status) → s ≡ status_of built.answer → BuildsForC bytes before after (for_c s built)
-  builds_for_c s e = rw e (by_answer built.answer refl)
+module _ (bytes before after : List ℕ) (are_bytes : AreBytes bytes) (empty : Grid) (no_speeds : empty.speeds.count ≡ 0) (no_torques : empty.torques.count ≡ 0) where
+  pub builds_for_c : (r : Result Grid Refusal) → Builds bytes before after r → BuildsForC bytes before after (for_c (status_of r) (result_unwrap_or r empty))
+  builds_for_c (Ok grid) b = record {
+    refusal = ap refusal_in b.outcome;
+    place = ap place_in b.outcome;
+    speeds = ap speeds_in b.outcome;
+    torques = ap torques_in b.outcome;
+    counts = (b.counts.speeds, b.counts.torques);
+    entries = b.written;
+    accurate = λ _. demand3 bytes before after are_bytes grid b;
+  }
+  builds_for_c (Err x) b = record {
+    refusal = ap refusal_in b.outcome;
+    place = ap place_in b.outcome;
+    speeds = rw no_speeds (ap speeds_in b.outcome);
+    torques = rw no_torques (ap torques_in b.outcome);
+    counts = (omega arith, omega arith);
+    entries = b.written;
+    accurate = λ none. absurd (omega (arith, (number_between x).0, none));
+  }

@@ -1,10 +1,9 @@
 -- An answer as C has it: the number of the refusal in document 01's table, 0 where there is none (no row of the table has the number 0), its place, and the values, which are 0 where it is refused.
-use Rattle.std.specs.Prelude.{ℕ, ℤ, pos}
+use Rattle.std.specs.Prelude.{ℕ, ℤ, pos, Result, Ok, Err}
 use Rattle.refusal.specs.Outcome.{Outcome, accepted, refused}
 use Rattle.refusal.specs.Table.{number, place}
-use Rattle.refusal.specs.declared.Answer.{Answer}
-use Rattle.refusal.specs.declared.Answer.TheVariants.{Accepted, Refused}
-use Rattle.lookup.specs.Nearest.{GridPoint}
+use Rattle.refusal.specs.declared.Refusal.{Refusal}
+use Rattle.lookup.specs.declared.GridPoint.{GridPoint}
 use Rattle.grid.specs.Parts.{grid_of}
 use Rattle.sensor.specs.Sensor.{sensor_of}
 use Rattle.numbers.specs.declared.Numbers.{Numbers}
@@ -14,9 +13,9 @@ use Rattle.axle.specs.declared.AxleNearest.{AxleNearest}
 use Rattle.axle.specs.declared.AxleLength.{AxleLength}
 use Rattle.axle.specs.declared.AxleNumbers.{AxleNumbers}
 
-abbrev pub status_of : Answer → Status
-status_of Accepted = record { refusal = 0; place = 0 }
-status_of (Refused x) = record { refusal = number x; place = place x }
+abbrev pub status_of : {A : Type 0} → Result A Refusal → Status
+status_of (Ok value) = record { refusal = 0; place = 0 }
+status_of (Err x) = record { refusal = number x; place = place x }
 
 abbrev pub loss_of : Outcome ℤ → AxleLoss
 loss_of (accepted z) = record { refusal = 0; place = 0; loss = z }

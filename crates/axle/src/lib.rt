@@ -3,22 +3,21 @@
 #![tactic(auto)]
 
 ghost use Rattle.std.specs.Prelude.{◌≡◌, length};
+ghost use Rattle.refusal.specs.Table.{outcome_of};
 ghost use Rattle.grid.specs.Parts.{grid_of};
 ghost use Rattle.lookup.specs.Loss.{loss_answer};
 ghost use Rattle.lookup.specs.Nearest.{nearest_answer};
-ghost use Rattle.lookup.specs.Answers.{loss_answer_of, nearest_answer_of};
 ghost use Rattle.listing.specs.Listing.{listing, listed};
-ghost use Rattle.buffer.specs.Answers.{length_answer_of};
 ghost use Rattle.buffer.specs.Written.{content_of};
 ghost use Rattle.writer.specs.Written.{written, file_after};
 ghost use Rattle.axle.specs.Interface.{status_of, loss_of, nearest_of, length_of, numbers_in};
 ghost use Rattle.axle.specs.Build.{BuildsForC};
 
-use buffer::LengthAnswer;
-use grid::{Grid, SpeedAxis, TorqueAxis};
-use lookup::{LossAnswer, NearestAnswer};
+use grid::{Axis, Grid};
+use lookup::GridPoint;
 use numbers::Numbers;
-use refusal::Answer;
+use refusal::Refusal;
+use sensor::Sensor;
 
 // The number of a refusal in document 01's table and its place; both 0 where nothing is refused.
 #[derive(Clone, Copy)]
@@ -83,104 +82,99 @@ pub struct AxleNumbers {
     pub right: [u16; 9],
 }
 
-fn status_of(answer: Answer) -> Status
-    ensures { result ≡ status_of answer }
+fn status_of<T>(answer: &Result<T, Refusal>) -> Status
+    ensures { result ≡ status_of answer.now }
 {
     match answer {
-        Answer::Accepted => Status {
+        Ok(_) => Status {
             refusal: 0,
             place: 0,
         },
-        Answer::Refused(x) => Status {
-            refusal: x.number() as u32,
+        Err(x) => Status {
+            refusal: u32::from(x.number()),
             place: x.place(),
         },
     }
 }
 
-fn loss_of(answer: LossAnswer) -> AxleLoss
-    ensures { result ≡ loss_of (loss_answer_of answer) }
-{
-    match answer {
-        LossAnswer::Loss(loss) => AxleLoss {
-            refusal: 0,
-            place: 0,
-            loss,
-        },
-        LossAnswer::Refused(x) => AxleLoss {
-            refusal: x.number() as u32,
-            place: x.place(),
-            loss: 0,
-        },
+impl From<Result<i64, Refusal>> for AxleLoss {
+    ghost from_gives = { λ answer loss. loss ≡ loss_of (outcome_of answer) };
+
+    fn from(answer: Result<i64, Refusal>) -> AxleLoss {
+        let status = status_of(&answer);
+        AxleLoss {
+            refusal: status.refusal,
+            place: status.place,
+            loss: answer.unwrap_or(0),
+        }
     }
 }
 
-fn nearest_of(answer: NearestAnswer) -> AxleNearest
-    ensures { result ≡ nearest_of (nearest_answer_of answer) }
-{
-    match answer {
-        NearestAnswer::At { speed, torque } => AxleNearest {
-            refusal: 0,
-            place: 0,
-            speed,
-            torque,
-        },
-        NearestAnswer::Refused(x) => AxleNearest {
-            refusal: x.number() as u32,
-            place: x.place(),
+impl From<Result<GridPoint, Refusal>> for AxleNearest {
+    ghost from_gives = { λ answer nearest. nearest ≡ nearest_of (outcome_of answer) };
+
+    fn from(answer: Result<GridPoint, Refusal>) -> AxleNearest {
+        let status = status_of(&answer);
+        let point = answer.unwrap_or(GridPoint {
             speed: 0,
             torque: 0,
+        });
+        AxleNearest {
+            refusal: status.refusal,
+            place: status.place,
+            speed: point.speed,
+            torque: point.torque,
+        }
+    }
+}
+
+impl From<Result<usize, Refusal>> for AxleLength {
+    ghost from_gives = { λ answer length. length ≡ length_of (outcome_of answer) };
+
+    fn from(answer: Result<usize, Refusal>) -> AxleLength {
+        let status = status_of(&answer);
+        AxleLength {
+            refusal: status.refusal,
+            place: status.place,
+            length: answer.unwrap_or(0),
+        }
+    }
+}
+
+// The axes that C lends.
+fn grid_of(speeds: &[u16; 32], speed_count: usize, torques: &[u16; 64], torque_count: usize) -> Grid
+    ensures { result ≡ grid_of speeds.now speed_count torques.now torque_count }
+{
+    Grid {
+        speeds: Axis {
+            numbers: *speeds,
+            count: speed_count,
+        },
+        torques: Axis {
+            numbers: *torques,
+            count: torque_count,
         },
     }
 }
 
-fn length_of(answer: LengthAnswer) -> AxleLength
-    ensures { result ≡ length_of (length_answer_of answer) }
-{
-    match answer {
-        LengthAnswer::Length(length) => AxleLength {
-            refusal: 0,
-            place: 0,
-            length,
-        },
-        LengthAnswer::Refused(x) => AxleLength {
-            refusal: x.number() as u32,
-            place: x.place(),
-            length: 0,
-        },
-    }
-}
+impl From<AxleNumbers> for Numbers {
+    ghost from_gives = { λ handed numbers. numbers ≡ numbers_in handed };
 
-fn numbers_in(handed: AxleNumbers) -> Numbers
-    ensures { result ≡ numbers_in handed }
-{
-    let speeds = handed.speeds;
-    let torques = handed.torques;
-    let speed_axis = SpeedAxis {
-        numbers: speeds,
-        count: handed.speed_count,
-    };
-    let torque_axis = TorqueAxis {
-        numbers: torques,
-        count: handed.torque_count,
-    };
-    let input_numbers = handed.input;
-    let output_numbers = handed.output;
-    let right_numbers = handed.right;
-    let input = sensor::sensor_of(&input_numbers);
-    let output = sensor::sensor_of(&output_numbers);
-    let right = sensor::sensor_of(&right_numbers);
-    Numbers {
-        kind: handed.kind,
-        line: handed.line,
-        ratio: handed.ratio,
-        grid: Grid {
-            speeds: speed_axis,
-            torques: torque_axis,
-        },
-        input,
-        output,
-        right,
+    fn from(handed: AxleNumbers) -> Numbers {
+        Numbers {
+            kind: handed.kind,
+            line: handed.line,
+            ratio: handed.ratio,
+            grid: grid_of(
+                &handed.speeds,
+                handed.speed_count,
+                &handed.torques,
+                handed.torque_count,
+            ),
+            input: Sensor::from(handed.input),
+            output: Sensor::from(handed.output),
+            right: Sensor::from(handed.right),
+        }
     }
 }
 
@@ -189,20 +183,17 @@ pub fn axle_build(data: &[u8], entries: &mut [u32]) -> AxleBuilt
     ensures { BuildsForC «data».now entries.old entries.new result }
 {
     let built = map::build(data, entries);
-    let answer = built.answer;
-    let status = status_of(answer);
-    let grid = built.grid;
-    let speed_axis = grid.speeds;
-    let torque_axis = grid.torques;
-    let speeds = speed_axis.numbers;
-    let torques = torque_axis.numbers;
+    let status = status_of(&built);
+    let Grid { speeds, torques } = built.unwrap_or(grid::empty_grid());
+    let speed_numbers = speeds.numbers;
+    let torque_numbers = torques.numbers;
     AxleBuilt {
         refusal: status.refusal,
         place: status.place,
-        speeds,
-        speed_count: speed_axis.count,
-        torques,
-        torque_count: torque_axis.count,
+        speeds: speed_numbers,
+        speed_count: speeds.count,
+        torques: torque_numbers,
+        torque_count: torques.count,
     }
 }
 
@@ -221,15 +212,8 @@ pub fn axle_loss(
         (loss_answer (grid_of speeds.now speed_count torques.now torque_count)
         entries.now (record { speed = speed; torque = torque })) }
 {
-    loss_of(lookup::loss_in_parts(
-        speeds,
-        speed_count,
-        torques,
-        torque_count,
-        entries,
-        speed,
-        torque,
-    ))
+    let grid = grid_of(speeds, speed_count, torques, torque_count);
+    lookup::loss(&grid, entries, speed, torque).into()
 }
 
 // The nearest grid point, speed in tenths of rpm and torque in hundredths of Nm.
@@ -245,7 +229,8 @@ pub fn axle_nearest(
         nearest_of
         (nearest_answer (grid_of speeds.now speed_count torques.now torque_count) (record { speed = speed; torque = torque })) }
 {
-    nearest_of(lookup::nearest_in_parts(speeds, speed_count, torques, torque_count, speed, torque))
+    let grid = grid_of(speeds, speed_count, torques, torque_count);
+    lookup::nearest(&grid, speed, torque).into()
 }
 
 // Writes the listing of a map from the start of the lent text.
@@ -266,7 +251,8 @@ pub fn axle_listing(
         (listing (grid_of speeds.now speed_count torques.now torque_count) entries.now)
         text.old }
 {
-    length_of(listing::write_in_parts(speeds, speed_count, torques, torque_count, entries, text))
+    let grid = grid_of(speeds, speed_count, torques, torque_count);
+    listing::write(&grid, entries, text).into()
 }
 
 // Writes component data from its numbers, and the torques of its rows in the order of the data, to the first bytes of the lent file.
@@ -274,6 +260,6 @@ pub fn axle_write(numbers: AxleNumbers, rows: &[u32], file: &mut [u8]) -> AxleLe
     ensures answer { result ≡ length_of (written (numbers_in numbers) rows.now (length file.old)) }
     ensures file_after { file.new ≡ file_after (numbers_in numbers) rows.now file.old }
 {
-    let handed = numbers_in(numbers);
-    length_of(writer::write(handed, rows, file))
+    let numbers = Numbers::from(numbers);
+    writer::write(&numbers, rows, file).into()
 }

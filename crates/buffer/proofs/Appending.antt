@@ -9,19 +9,21 @@ use Rattle.grid.specs.Lists.{joined, overwritten}
 use Rattle.buffer.specs.Written.{HasRoom, Appends}
 use Rattle.buffer.specs.declared.Writer.{Writer}
 
-module _ {bytes : List ℕ} {old new : Writer} (a : Appends bytes old new) where
-  -- the text keeps its length
-  pub length_kept : length new.text.now ≡ length old.text.now
-  length_kept = rw a.holds (simp (length-append, length-drop, length-take) (omega (arith, a.room)))
+-- bytes that are written from the start of a text
+module _ {bytes : List ℕ} {old new : Writer} (a : Appends bytes old new) (start : old.at ≡ 0) where
+  pub appended_first : new.text.now ≡ overwritten bytes old.text.now
+  appended_first = rw (a.holds, start, zero-add)
 
-  -- of bytes written from the start of a text
-  pub appended_first : old.at ≡ 0 → new.text.now ≡ overwritten bytes old.text.now
-  appended_first start = rw (a.holds, start, zero-add)
+  pub appended_alone : take new.at new.text.now ≡ bytes
+  appended_alone =
+      let size : new.at ≡ length bytes = omega arith in
+      rw (appended_first, size) (take-append_seam bytes (drop (length bytes) old.text.now))
 
 -- nothing written
 pub appends_nothing : (writer : Writer) → HasRoom 0 writer → Appends [] writer writer
 appends_nothing writer room = record {
   same_reference = refl;
+  same_length = refl;
   room = room;
   after = omega arith;
   holds = grind (arith, common_steps);
@@ -32,11 +34,12 @@ pub appends_then : {a b : List ℕ} {old between new : Writer} → Appends a old
 appends_then {a} {b} {old} {between} {new} p q =
     let front = take old.at old.text.now ++ a in
     let back = drop (old.at + length a) old.text.now in
-    let at : between.at ≡ length front = simp (length-append, length-take) (omega (arith, p.after, p.room)) in
+    let at : between.at ≡ length front = simp (length-append, length-take) (omega arith) in
     record {
       same_reference = cc;
-      room = omega (arith, p.after, q.room, length_kept p, length-append a b);
-      after = omega (arith, p.after, q.after, length-append a b);
+      same_length = cc;
+      room = omega (arith, length-append a b);
+      after = omega (arith, length-append a b);
       holds = q.holds ∙ rw (p.holds, at, take-append_seam front back, drop-append-add front back (length b)) (simp (append_assoc, length-append, drop-drop, add_assoc));
     }
 
@@ -69,4 +72,4 @@ module _ (text : ℕ → List ℕ) (i : ℕ) {old between : Writer} (a : Appends
 
   -- where there was room for all, there is room for the next
   pub room_next : (count : ℕ) → i < count → HasRoom (length (joined text count)) old → HasRoom (length (text i)) between
-  room_next count l room = omega (arith, a.after, length_kept a, joined_grows text i, joined_part text (i + 1) count (omega arith))
+  room_next count l room = omega (arith, joined_grows text i, joined_part text (i + 1) count (omega arith))

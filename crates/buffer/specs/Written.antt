@@ -11,6 +11,7 @@ HasRoom count writer = writer.at + count ≤ length writer.text.now
 -- the bytes, for which there was room, were written at the writer's place: its place is now after them, and nothing else of its text has changed
 pub record Appends (bytes : List ℕ) (old new : Writer) : Type 0 where
   pub same_reference : new.text.ghost_name ≡ old.text.ghost_name
+  pub same_length : length new.text.now ≡ length old.text.now
   pub room : HasRoom (length bytes) old
   pub after : new.at ≡ old.at + length bytes
   pub holds : new.text.now ≡ take old.at old.text.now ++ bytes ++ drop (old.at + length bytes) old.text.now

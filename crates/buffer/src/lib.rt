@@ -46,8 +46,7 @@ impl Writer<'_> {
         self.at = end;
     }
 
-    // Writes the last count digits of n. Where the count is a constant, no loop is left.
-    #[inline(always)]
+    // Writes the last count digits of n.
     fn digits(&mut self, n: usize, count: usize)
         requires { HasRoom count self.old }
         ensures { Appends (last_digits count n) self.old self.new }
@@ -62,7 +61,7 @@ impl Writer<'_> {
         self.at = end;
     }
 
-    // Writes a number in decimal digits.
+    // Writes a number in decimal digits. Each short count is a constant of its own, so that no loop is left there.
     #[tactic(auto, using(crate::proofs::Digits::length_digits), unfolding(crate::specs::Digits::decimal))]
     pub fn decimal(&mut self, n: usize)
         requires { HasRoom (length (decimal n)) self.old }
@@ -73,6 +72,7 @@ impl Writer<'_> {
             2 => self.digits(n, 2),
             3 => self.digits(n, 3),
             4 => self.digits(n, 4),
+            5 => self.digits(n, 5),
             count => self.digits(n, count),
         }
     }

@@ -1,5 +1,5 @@
 // The listing of a map and the line of a refusal, written as text to the first bytes of a lent buffer.
-#![tactic(auto)]
+#![tactic(auto, using(crate::proofs::Lengths::length_line, crate::proofs::Lengths::length_listing, crate::proofs::Lengths::length_refusal_line, crate::proofs::Parts::row_of_parts, buffer::proofs::Digits::length_decimal, buffer::proofs::Digits::length_hundredths, buffer::proofs::Appending::joined_grows, buffer::proofs::Appending::appended_first, grid::proofs::Map::map_facts), unfolding(crate::specs::Listing::row, crate::specs::Listing::rows, crate::specs::Listing::listed, buffer::specs::Written::fitted, grid::specs::Lists::joined))]
 
 ghost use Rattle.std.specs.Prelude.{◌≡◌, ◌*◌, ◌≤◌, length};
 ghost use Rattle.refusal.specs.Outcome.{refusal};
@@ -12,16 +12,17 @@ use grid::Grid;
 use refusal::Refusal;
 
 // How many bytes the line of one entry takes.
-#[tactic(auto, using(crate::proofs::Lengths::length_line, buffer::proofs::Digits::length_decimal, buffer::proofs::Digits::length_hundredths))]
 fn line_length(speed: u16, torque: u16, loss: u32) -> usize
     ensures { (result ≡ length (line speed torque loss)) × (result ≤ 66) }
 {
     let loss_length = buffer::digit_count(loss as usize / 100) + 3;
-    buffer::digit_count(usize::from(speed)) + buffer::digit_count(usize::from(torque)) + loss_length + 3
+    buffer::digit_count(usize::from(speed))
+        + buffer::digit_count(usize::from(torque))
+        + loss_length
+        + 3
 }
 
 // Writes the line of one entry.
-#[tactic(auto, unfolding(crate::specs::Listing::line))]
 fn write_line(speed: u16, torque: u16, loss: u32, text: &mut Writer)
     requires { HasRoom (length (line speed torque loss)) text.old }
     ensures { Appends (line speed torque loss) text.old text.new }
@@ -35,7 +36,6 @@ fn write_line(speed: u16, torque: u16, loss: u32, text: &mut Writer)
 }
 
 // How many bytes the lines of one speed take.
-#[tactic(auto, using(buffer::proofs::Appending::joined_grows), unfolding(grid::specs::Lists::joined, crate::specs::Listing::row))]
 fn row_length(speed: u16, torques: &[u16], losses: &[u32]) -> usize
     requires { (length torques.now ≤ 64) × (length torques.now ≤ length losses.now) }
     ensures { (result ≡ length (row speed torques.now (length torques.now) losses.now 0)) × (result ≤ 4224) }
@@ -48,7 +48,6 @@ fn row_length(speed: u16, torques: &[u16], losses: &[u32]) -> usize
 }
 
 // Writes the lines of one speed.
-#[tactic(auto, unfolding(grid::specs::Lists::joined, crate::specs::Listing::row))]
 fn write_row(speed: u16, torques: &[u16], losses: &[u32], text: &mut Writer)
     requires enough { length torques.now ≤ length losses.now }
     requires room { HasRoom (length (row speed torques.now (length torques.now) losses.now 0)) text.old }
@@ -60,7 +59,6 @@ fn write_row(speed: u16, torques: &[u16], losses: &[u32], text: &mut Writer)
 }
 
 // How many bytes the listing of a map takes.
-#[tactic(auto, using(crate::proofs::Lengths::length_listing, crate::proofs::Parts::row_of_parts, buffer::proofs::Appending::joined_grows), unfolding(grid::specs::Lists::joined, crate::specs::Listing::rows))]
 fn listing_length(grid: &Grid, entries: &[u32]) -> usize
     requires counts { (grid.now.speeds.count ≤ 32) × (grid.now.torques.count ≤ 64) }
     requires enough { grid.now.speeds.count * grid.now.torques.count ≤ length entries.now }
@@ -77,7 +75,6 @@ fn listing_length(grid: &Grid, entries: &[u32]) -> usize
 }
 
 // Writes the listing of a map.
-#[tactic(auto, using(crate::proofs::Lengths::length_listing), unfolding(grid::specs::Lists::joined))]
 fn write_listing(grid: &Grid, entries: &[u32], text: &mut Writer)
     requires counts { (grid.now.speeds.count ≤ 32) × (grid.now.torques.count ≤ 64) }
     requires enough { grid.now.speeds.count * grid.now.torques.count ≤ length entries.now }
@@ -89,12 +86,16 @@ fn write_listing(grid: &Grid, entries: &[u32], text: &mut Writer)
     text.bytes(b"speed,torque,loss\n");
     for (i, speed) in speeds.iter().enumerate() {
         let first = i * torques.len();
-        write_row(*speed, torques, &entries[first..first + torques.len()], text);
+        write_row(
+            *speed,
+            torques,
+            &entries[first..first + torques.len()],
+            text,
+        );
     }
 }
 
 // Writes the listing of a map from the start of the text, and answers its length. 22 is tested first, then 11, whose place is that length.
-#[tactic(auto, using(grid::proofs::Map::map_facts), unfolding(crate::specs::Listing::listed, buffer::specs::Written::fitted))]
 pub fn write(grid: &Grid, entries: &[u32], text: &mut [u8]) -> Result<usize, Refusal>
     ensures answer { outcome_of result ≡ listed grid.now entries.now (length text.old) }
     ensures text_after { text.new ≡ content_of (outcome_of result) (listing grid.now entries.now) text.old }
@@ -112,7 +113,6 @@ pub fn write(grid: &Grid, entries: &[u32], text: &mut [u8]) -> Result<usize, Ref
 }
 
 // Writes the line of a refusal.
-#[tactic(auto, unfolding(crate::specs::Listing::refusal_line))]
 fn write_refusal_line(number: u8, place: usize, line: &mut Writer)
     requires { HasRoom (length (refusal_line (refusal number place))) line.old }
     ensures { Appends (refusal_line (refusal number place)) line.old line.new }
@@ -125,7 +125,6 @@ fn write_refusal_line(number: u8, place: usize, line: &mut Writer)
 }
 
 // Writes the line of a refusal from the start of the text, or answers 11 with the bytes needed.
-#[tactic(auto, using(crate::proofs::Lengths::length_refusal_line, buffer::proofs::Digits::length_decimal, buffer::proofs::Appending::appended_first), unfolding(buffer::specs::Written::fitted))]
 pub fn write_refusal(x: Refusal, text: &mut [u8]) -> Result<usize, Refusal>
     ensures answer { outcome_of result ≡ fitted 11 (refusal_line (told x)) (length text.old) }
     ensures text_after { text.new ≡ content_of (outcome_of result) (refusal_line (told x)) text.old }

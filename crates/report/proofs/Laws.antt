@@ -6,7 +6,7 @@ use native.Mathlib.Omega.{arith}
 use lib.ListN.{length, length-append, take}
 use lib.Seq.{get_or-take}
 use Rattle.refusal.specs.Outcome.{accepted, refused}
-use Rattle.refusal.specs.Table.{told}
+use Rattle.refusal.specs.Table.{told, outcome_of}
 use Rattle.refusal.specs.declared.Refusal.{Refusal}
 use Rattle.grid.specs.Map.{speeds_of, torques_of}
 use Rattle.grid.specs.Parts.{grid_of}
@@ -19,15 +19,12 @@ use Rattle.layout.proofs.Theorems.{sound}
 use Rattle.layout.proofs.Lengths.{beginning_decides}
 use Rattle.map.specs.Build.{points, build}
 use Rattle.map.specs.Answers.{Builds}
-use Rattle.map.specs.declared.Built.{Built}
-use Rattle.refusal.specs.declared.Answer.TheVariants.{Accepted, Refused}
 use Rattle.grid.proofs.Lists.{joined_same}
 use Rattle.grid.proofs.Points.{row_within}
-use Rattle.map.proofs.Valid.{is_built, is_map}
+use Rattle.map.proofs.Valid.{is_map}
 use Rattle.listing.specs.Listing.{listing, rows, row, row_of_speed, refusal_line, listed}
-use Rattle.buffer.specs.Answers.{length_answer_of}
 use Rattle.buffer.specs.Written.{fitted, content_of}
-use Rattle.buffer.specs.declared.LengthAnswer.{LengthAnswer}
+use Rattle.std.specs.Prelude.{Result, Ok, Err}
 use Rattle.listing.proofs.Fitted.{listed_map}
 use Rattle.buffer.proofs.Fitted.{fitted_whole}
 use Rattle.listing.proofs.Lengths.{listing_most}
@@ -55,33 +52,33 @@ listing_same grid entries w =
     rw (w.speeds_length, w.torques_length, rows_same grid.speeds.numbers grid.torques.numbers entries grid.speeds.count grid.torques.count)
 
 -- ---- what is reported
-module _ (bytes before after text_before text_after : List ℕ) (built : Built) (b : Builds bytes before after built) (r : LengthAnswer) where
-  pub refusal_reported : (x : Refusal) → built.answer ≡ Refused x
-      → (length_answer_of r ≡ fitted 11 (refusal_line (told x)) (length text_before)) × ((text_after ≡ content_of (length_answer_of r) (refusal_line (told x)) text_before) × (length (refusal_line (told x)) ≤ 53))
+module _ (bytes before after text_before text_after : List ℕ) (r : Result ℕ Refusal) where
+  pub refusal_reported : (x : Refusal) → Builds bytes before after (Err x)
+      → (outcome_of r ≡ fitted 11 (refusal_line (told x)) (length text_before)) × ((text_after ≡ content_of (outcome_of r) (refusal_line (told x)) text_before) × (length (refusal_line (told x)) ≤ 53))
       → Reports bytes before after text_before text_after r
   unfolding report report_of
-  refusal_reported x e h =
-      let q : refused (told x) ≡ build bytes (length before) = rw e at b.outcome in
+  refusal_reported x b h =
+      let q : refused (told x) ≡ build bytes (length before) = b.outcome in
       record { answer = rw (← q) h.0; text = rw (← q) h.1.0; entries = b.written; short = rw (← q) (omega (arith, h.1.1)) }
 
-  pub map_reported : AreBytes bytes → built.answer ≡ Accepted
-      → (length_answer_of r ≡ listed built.grid after (length text_before)) × (text_after ≡ content_of (length_answer_of r) (listing built.grid after) text_before)
+  pub map_reported : (grid : Grid) → Builds bytes before after (Ok grid) → AreBytes bytes
+      → (outcome_of r ≡ listed grid after (length text_before)) × (text_after ≡ content_of (outcome_of r) (listing grid after) text_before)
       → Reports bytes before after text_before text_after r
   unfolding report report_of
-  map_reported are_bytes e h =
-      let q = is_built bytes before after are_bytes built b e in
-      let v = is_map bytes before after are_bytes built b e in
-      let l = listing_same built.grid after b.counts in
+  map_reported grid b are_bytes h =
+      let q = b.outcome in
+      let v = is_map bytes before after are_bytes grid b in
+      let l = listing_same grid after b.counts in
       record {
-        answer = h.0 ∙ sym (listed_map built.grid after (length text_before) v) ∙ rw (← q, l) refl;
+        answer = h.0 ∙ sym (listed_map grid after (length text_before) v) ∙ rw (← q, l) refl;
         text = rw (← q, ← l) h.1;
         entries = b.written;
-        short = rw (← q, ← l) (omega (arith, listing_most built.grid after v));
+        short = rw (← q, ← l) (omega (arith, listing_most grid after v));
       }
 
 -- ---- with room for every report, the report is written
-pub always_whole : (bytes before after text_before text_after : List ℕ) (r : LengthAnswer) → Reports bytes before after text_before text_after r → length text_before ≡ 65536
-    → length_answer_of r ≡ accepted (length (report bytes (length before)))
+pub always_whole : (bytes before after text_before text_after : List ℕ) (r : Result ℕ Refusal) → Reports bytes before after text_before text_after r → length text_before ≡ 65536
+    → outcome_of r ≡ accepted (length (report bytes (length before)))
 always_whole bytes before after text_before text_after r h e =
     h.answer ∙ sym (fitted_whole 11 (report bytes (length before)) (length text_before) (length (report bytes (length before))) refl (omega (arith, h.short)))
 
@@ -106,8 +103,8 @@ pub counted_bytes : (input : List ℕ) (n count : ℕ) → length input ≡ 3276
 counted_bytes input n count l e = ap (λ (k : ℕ). take k input) (sub-zero count ∙ e ∙ ap (min n) (sym l)) ∙ take_within n input
 
 -- the program's own room is enough for every output
-pub program_writes : (bytes before after text_before text_after : List ℕ) (r : LengthAnswer) (n : ℕ) → length before ≡ 2048 → length text_before ≡ 65536
-    → Reports bytes before after text_before text_after r → n ≡ text_length (length_answer_of r)
+pub program_writes : (bytes before after text_before text_after : List ℕ) (r : Result ℕ Refusal) (n : ℕ) → length before ≡ 2048 → length text_before ≡ 65536
+    → Reports bytes before after text_before text_after r → n ≡ text_length (outcome_of r)
     → ProgramWrites bytes before after text_before text_after n
 program_writes bytes before after text_before text_after r n b t h e =
     let whole = rw b at (always_whole bytes before after text_before text_after r h t) in

@@ -1,14 +1,14 @@
 -- Document 01, "The map program": the bytes that it writes for component data.
-use Rattle.std.specs.Prelude.{ℕ, ◌≤◌, ◌≡◌, List, length, take}
+use Rattle.std.specs.Prelude.{ℕ, ◌≤◌, ◌≡◌, List, length, take, Result}
 use Rattle.refusal.specs.Outcome.{Outcome, accepted, refused}
+use Rattle.refusal.specs.Table.{outcome_of}
+use Rattle.refusal.specs.declared.Refusal.{Refusal}
 use Rattle.grid.specs.Lists.{overwritten}
 use Rattle.grid.specs.Parts.{grid_of}
 use Rattle.layout.specs.Rules.{AreBytes}
 use Rattle.map.specs.Build.{LossMap, build, content}
 use Rattle.listing.specs.Listing.{listing, refusal_line}
-use Rattle.buffer.specs.Answers.{length_answer_of}
 use Rattle.buffer.specs.Written.{fitted, content_of}
-use Rattle.buffer.specs.declared.LengthAnswer.{LengthAnswer}
 
 -- the listing of the map, or the line of the refusal
 unfoldable pub report_of : Outcome LossMap → List ℕ
@@ -20,9 +20,9 @@ unfoldable pub report : List ℕ → (lent : ℕ) → List ℕ
 report bytes lent = report_of (build bytes lent)
 
 -- What `write` promises for all data, lent entries and lent text: the length of the report or 11 with the bytes needed, and what both hold at exit. No report is longer than 65,536 bytes.
-pub record Reports (bytes entries_before entries_after text_before text_after : List ℕ) (r : LengthAnswer) : Type 0 where
-  pub answer : length_answer_of r ≡ fitted 11 (report bytes (length entries_before)) (length text_before)
-  pub text : text_after ≡ content_of (length_answer_of r) (report bytes (length entries_before)) text_before
+pub record Reports (bytes entries_before entries_after text_before text_after : List ℕ) (r : Result ℕ Refusal) : Type 0 where
+  pub answer : outcome_of r ≡ fitted 11 (report bytes (length entries_before)) (length text_before)
+  pub text : text_after ≡ content_of (outcome_of r) (report bytes (length entries_before)) text_before
   pub entries : entries_after ≡ content (build bytes (length entries_before)) entries_before
   pub short : length (report bytes (length entries_before)) ≤ 65536
 

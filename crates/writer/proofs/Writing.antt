@@ -7,7 +7,7 @@ use borrow.Author.Tests.{le-leb}
 use lib.ListN.{length, drop}
 use lib.Seq.{take-append_seam}
 use Rattle.refusal.specs.Outcome.{Outcome, accepted, refused, ◌>>=◌, without_place}
-use Rattle.refusal.specs.Table.{number, place, told}
+use Rattle.refusal.specs.Table.{number, place, told, outcome_of}
 use Rattle.refusal.specs.declared.Refusal.{Refusal}
 use Rattle.fields.specs.Bytes.{between}
 use Rattle.layout.specs.Rules.{FitFourBytes}
@@ -17,14 +17,11 @@ use Rattle.layout.proofs.Lengths.{laid_longest}
 use Rattle.map.specs.Build.{LossMap, points, rows_check, map_of, build}
 use Rattle.map.specs.Acceptance.{map_of_numbers}
 use Rattle.numbers.specs.Check.{numbers_check}
-use Rattle.buffer.specs.Written.{TextWritten, fitted, content_of}
-use Rattle.buffer.proofs.Places.{text_start}
+use Rattle.buffer.specs.Written.{fitted, content_of}
+use Rattle.std.specs.Prelude.{Result, Err}
 use Rattle.numbers.specs.Says.{says, NumbersRules}
 use Rattle.numbers.specs.declared.Numbers.{Numbers}
 use Rattle.numbers.proofs.Kept.{numbers_right}
-use Rattle.buffer.specs.Answers.{length_answer_of}
-use Rattle.buffer.specs.declared.LengthAnswer.{LengthAnswer}
-use Rattle.buffer.specs.declared.LengthAnswer.TheVariants.{Refused}
 use Rattle.writer.specs.Written.{file_of, written, after_build, Writes}
 
 -- a step that only goes on changes nothing of the refusal before it
@@ -44,11 +41,6 @@ module _ (file : List ℕ) (lent room : ℕ) where
   unfolding after_build
   rows_accepted m e = rw (← e)
 
--- ---- the bytes that were laid out from the start of a buffer are its first ones
-pub first_bytes : {text old new : List ℕ} {next : ℕ} → TextWritten text old 0 next new → between new 0 next ≡ text
-first_bytes {text} {old} {new} {next} w =
-    rw (w.holds, text_start old text, w.after, zero-add (length text), sub-zero (length text)) (take-append_seam text (drop (length text) old))
-
 module _ (g : Numbers) (torques : List ℕ) where
   -- numbers that keep their rules: what they are laid out as is read, and only its rows are left to test
   pub build_of : NumbersRules g torques → build (file_of g torques) 2048 ≡ (rows_check (says g torques) >>= λ _. accepted (map_of_numbers (says g torques)))
@@ -67,12 +59,12 @@ module _ (g : Numbers) (torques : List ℕ) where
   laid_within fit right = laid_longest (says g torques) (numbers_right g torques fit (sym right)).rules
 
   -- ---- the answers of `write`
-  pub numbers_refused : (before : List ℕ) (x : Refusal) → refused (told x) ≡ numbers_check g (length torques) → Writes g torques before before (Refused x)
+  pub numbers_refused : (before : List ℕ) (x : Refusal) → refused (told x) ≡ numbers_check g (length torques) → Writes g torques before before (Err x)
   unfolding written
   numbers_refused before x e = record { outcome = rw (← e); content = rw (← e) }
 
-  pub all_written : (before after : List ℕ) (r : LengthAnswer) → FitFourBytes torques → accepted tt ≡ numbers_check g (length torques)
-      → (file : List ℕ) → file ≡ file_of g torques → length_answer_of r ≡ after_build file 2048 (length before) → after ≡ content_of (length_answer_of r) file before
+  pub all_written : (before after : List ℕ) (r : Result ℕ Refusal) → FitFourBytes torques → accepted tt ≡ numbers_check g (length torques)
+      → (file : List ℕ) → file ≡ file_of g torques → outcome_of r ≡ after_build file 2048 (length before) → after ≡ content_of (outcome_of r) file before
       → Writes g torques before after r
   all_written before after r fit right file same answer content =
       let rules = numbers_right g torques fit (sym right) in

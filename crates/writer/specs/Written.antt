@@ -1,11 +1,11 @@
 -- Document 02, C-12: numbers written as component data into a lent buffer.
-use Rattle.std.specs.Prelude.{ℕ, ◌≡◌, List, length}
+use Rattle.std.specs.Prelude.{ℕ, ◌≡◌, List, length, Result}
 use Rattle.refusal.specs.Outcome.{Outcome, ◌>>=◌, without_place}
+use Rattle.refusal.specs.Table.{outcome_of}
+use Rattle.refusal.specs.declared.Refusal.{Refusal}
 use Rattle.layout.specs.Layout.{layout}
 use Rattle.map.specs.Build.{rows_check, build}
 use Rattle.buffer.specs.Written.{fitted, content_of}
-use Rattle.buffer.specs.Answers.{length_answer_of}
-use Rattle.buffer.specs.declared.LengthAnswer.{LengthAnswer}
 use Rattle.numbers.specs.Check.{numbers_check}
 use Rattle.numbers.specs.Says.{says}
 use Rattle.numbers.specs.declared.Numbers.{Numbers}
@@ -32,6 +32,6 @@ after_build file lent room = do
   fitted 30 file room
 
 -- what `write` promises for all numbers, torques of rows and buffers: the answer, and the whole content of the buffer at exit
-pub record Writes (g : Numbers) (row_torques before after : List ℕ) (r : LengthAnswer) : Type 0 where
-  pub outcome : length_answer_of r ≡ written g row_torques (length before)
+pub record Writes (g : Numbers) (row_torques before after : List ℕ) (r : Result ℕ Refusal) : Type 0 where
+  pub outcome : outcome_of r ≡ written g row_torques (length before)
   pub content : after ≡ file_after g row_torques before

@@ -6,4 +6,5 @@ use Rattle.axle.proofs.axle_build.Goals as goal
 pub returns : goal.returns
 returns c =
     let are_bytes : AreBytes c.args.«data».now = λ i h. (c.type_inv.data i).fits in
-    builds_for_c _ _ _ c.build-built.result are_bytes c.build-built.ensures _ c.status_of-status.ensures
+    rw (c.status_of-status.ensures, c.unwrap_or.ensures)
+    (builds_for_c _ _ _ are_bytes _ c.empty_grid.ensures.0 c.empty_grid.ensures.1 _ c.build-built.ensures)

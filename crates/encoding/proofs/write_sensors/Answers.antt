@@ -1,30 +1,22 @@
 -- `encoding::write_sensors` meets its contract. Assumes nothing.
-use Rattle.std.proofs.Common.{arith}
-use mathlib.Core.List.{append-nil}
-use borrow.Author.Tests.{eq-eqb, ne_eqb}
-use Rattle.buffer.proofs.Appending.{appends_then}
+use Rattle.std.proofs.Common.{ne_eqb, eq-eqb, append-nil}
+use Rattle.layout.specs.Layout.{two_bytes, sensor_bytes}
 use Rattle.component.specs.Component.{output_tags}
-use Rattle.layout.specs.Layout.{sensor_bytes}
-use Rattle.sensor.specs.Sensor.{sensor_numbers}
-use Rattle.encoding.proofs.Encoded.{length_numbers_field, room_after}
+use Rattle.buffer.proofs.Appending.{appends_then}
+use Rattle.encoding.proofs.Encoded.{flat_map_encoded}
 use Rattle.encoding.proofs.write_sensors.Goals as goal
 
-pub write_sensor-requires-2 : goal.write_sensor-requires-2
-write_sensor-requires-2 c =
-    room_after c.write_sensor.ensures 21 (omega (arith, length_numbers_field 6 (sensor_numbers c.args.numbers.now.input), c.requires))
-
-pub returns-then-numbers-eq2 : goal.returns-then-numbers-eq2
+pub returns-then-numbers-ne2-clause-sensors : goal.returns-then-numbers-ne2-clause-sensors
 unfolding sensor_bytes output_tags
-returns-then-numbers-eq2 c =
-    rw (eq-eqb _ 2 c.if-numbers-eq2.true, append-nil) (appends_then c.write_sensor.ensures c.write_sensor-2.ensures)
+returns-then-numbers-ne2-clause-sensors c =
+    let outputs = appends_then c.write_field-2.ensures c.write_field-then-numbers-ne2.ensures in
+    let all = appends_then c.write_field.ensures outputs in
+    let said = simp (flat_map_encoded two_bytes, c.numbers.ensures, c.numbers-2.ensures, c.numbers-then-numbers-ne2.ensures) at all in
+    rw (ne_eqb _ 2 c.if-numbers-ne2.true, append-nil) said
 
-pub write_sensor-requires-3 : goal.write_sensor-requires-3
-write_sensor-requires-3 c =
-    let second = room_after c.write_sensor.ensures 42 (omega (arith, length_numbers_field 6 (sensor_numbers c.args.numbers.now.input), c.requires)) in
-    room_after c.write_sensor-2.ensures 21 (omega (arith, length_numbers_field 7 (sensor_numbers c.args.numbers.now.output), second))
-
-pub returns : goal.returns
+pub returns-else-numbers-ne2-clause-sensors : goal.returns-else-numbers-ne2-clause-sensors
 unfolding sensor_bytes output_tags
-returns c =
-    rw (ne_eqb _ 2 c.if-numbers-eq2.false, append-nil)
-    (appends_then c.write_sensor.ensures (appends_then c.write_sensor-2.ensures c.write_sensor-3.ensures))
+returns-else-numbers-ne2-clause-sensors c =
+    let all = appends_then c.write_field.ensures c.write_field-2.ensures in
+    let said = simp (flat_map_encoded two_bytes, c.numbers.ensures, c.numbers-2.ensures) at all in
+    rw (eq-eqb _ 2 c.if-numbers-ne2.false, append-nil) said

@@ -1,6 +1,6 @@
 -- `listing::write_listing` meets its contract. Assumes nothing.
 use Rattle.std.proofs.Common.{◌≡◌, ◌<◌, arith}
-use Rattle.buffer.proofs.Appending.{length_kept, appends_then, appends_next, room_next}
+use Rattle.buffer.proofs.Appending.{appends_then, appends_next, room_next}
 use Rattle.listing.specs.Listing.{header, rows, listing}
 use Rattle.listing.proofs.Lengths.{length_listing}
 use Rattle.listing.proofs.Parts.{row_of_parts}
@@ -12,7 +12,7 @@ write_row-requires-clause-room c =
     let grid = c.args.grid.now in
     let l : c.loop-i.i < grid.speeds.count = omega arith in
     rw (row_of_parts _ _ _ _ _ _ l c.loop-i.invariant.0)
-    (room_next _ _ c.loop-i.invariant.1 grid.speeds.count l (omega (arith, length_listing grid c.args.entries.now, length_kept c.bytes.ensures, c.requires.room)))
+    (room_next _ _ c.loop-i.invariant.1 grid.speeds.count l (omega (arith, length_listing grid c.args.entries.now, c.requires.room)))
 
 pub loop-i-preserved : goal.loop-i-preserved
 loop-i-preserved c =

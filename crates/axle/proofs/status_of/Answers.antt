@@ -1,8 +1,0 @@
--- `axle::status_of` meets its contract. Assumes nothing.
-use Rattle.axle.proofs.status_of.Goals as goal
-
-pub returns-in-Accepted : goal.returns-in-Accepted
-returns-in-Accepted c = rw c.in-Accepted.is
-
-pub returns-in-Refused : goal.returns-in-Refused
-returns-in-Refused c = rw (c.in-Refused.is, c.number.ensures, c.place.ensures)
