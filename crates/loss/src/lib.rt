@@ -226,7 +226,8 @@ pub fn measured_loss(ratio: u16, input: u32, output: u32) -> Option<u64>
     gained.checked_sub(20_000 * u64::from(output))
 }
 
-// The allowance of a row, in half micronewton metres: a twentieth of the measured loss or 1 Nm at the wheel, whichever is more.
+// The allowance of a row, in half micronewton metres: a twentieth of the measured loss or 1 Nm at the wheel, whichever
+// is more.
 pub fn allowance(ratio: u16, input: u32, output: u32) -> u64
     ensures allowance { Same (result over 20000) (allowance ratio input output) }
     ensures bound { result < 2 ^ 48 }
@@ -235,7 +236,8 @@ pub fn allowance(ratio: u16, input: u32, output: u32) -> u64
     twentieth.max(2_000_000)
 }
 
-// The entry of a row, from its loss uncertainty in grains: what that has above the allowance is added to the measured loss, and the sum rounded up to a hundredth.
+// The entry of a row, from its loss uncertainty in grains: what that has above the allowance is added to the measured
+// loss, and the sum rounded up to a hundredth.
 #[tactic(auto, using(crate::proofs::Rounding::same_is, crate::proofs::Values::entry_is))]
 pub fn measured_entry(ratio: u16, input: u32, output: u32, uncertainty: u32) -> u64
     ensures { result ≡ entry_of ratio input output uncertainty }

@@ -16,7 +16,8 @@ use grid::Grid;
 use refusal::Refusal;
 use rows::Bench;
 
-// The row builder: gets the mutable part of the lent entries from index speed * torque count on, and puts the speed's row at its start.
+// The row builder: gets the mutable part of the lent entries from index speed * torque count on, and puts the
+// speed's row at its start.
 fn build_row(row: &[u32], entries: &mut [u32])
     requires { length row.now ≤ length entries.old }
     ensures { entries.new ≡ overwritten row.now entries.old }
@@ -24,7 +25,8 @@ fn build_row(row: &[u32], entries: &mut [u32])
     entries[..row.len()].copy_from_slice(row);
 }
 
-// Each speed's row, one stretch after the other, from rows that were reckoned before: that of a speed starts step places after the one before.
+// Each speed's row, one stretch after the other, from rows that were reckoned before: that of a speed starts step
+// places after the one before.
 fn build_rows(from: &[u32], step: usize, size: usize, speeds: usize, entries: &mut [u32])
     requires from { speeds * step + size ≤ length from.now + step }
     requires entries { speeds * size ≤ length entries.old }
@@ -39,7 +41,8 @@ fn build_rows(from: &[u32], step: usize, size: usize, speeds: usize, entries: &m
 // The standard row, which all speeds share.
 fn standard_row(line: u16, ratio: u16, torques: &[u16]) -> [u32; 64]
     requires { length torques.now ≤ 64 }
-    ensures { result ≡ overwritten (tabulate (standard_at line ratio torques.now) (length torques.now)) (replicate 64 0) }
+    ensures { result ≡
+        overwritten (tabulate (standard_at line ratio torques.now) (length torques.now)) (replicate 64 0) }
 {
     let mut row = [0u32; 64];
     for (i, torque) in torques.iter().enumerate() {
@@ -115,8 +118,9 @@ fn build_entries(component: &Component, entries: &mut [u32]) -> Result<(), Refus
     }
 }
 
-// Builds the map of component data: its axes, and its entries in the lent slice, the row of one speed after that of another.
-// Where it refuses, the slice stays as it was; where it accepts, so does what stands past the last entry.
+// Builds the map of component data: answers its axes, and puts its entries into the lent slice, the row of one speed
+// after that of another. Where it refuses, the slice stays as it was; where it accepts, so does what stands past the
+// last entry.
 pub fn build(data: &[u8], entries: &mut [u32]) -> Result<Grid, Refusal>
     ensures { Builds «data».now entries.old entries.new result }
 {

@@ -131,7 +131,8 @@ impl Bench {
         uncertainty as u32
     }
 
-    // The entry of a row whose first byte is at a place of the data, or its refusal: 7 for the input and for each output, then 8 and 9 for the outputs together, and 10.
+    // The entry of a row whose first byte is at a place of the data, or its refusal: 7 for the input and for each
+    // output, then 8 and 9 for the outputs together, and 10.
     fn entry(&self, axis_torque: u16, torques: Torques, place: usize) -> Result<u32, Refusal>
         requires bench { BenchRight self.now }
         requires right { IfNone self.now.right (torques.right ≡ 0) }
@@ -171,7 +172,8 @@ fn fill_speed(
         first_refusal (part_check (bench_of bench.now) torques.now rows.entry.bytes.now rows.entry.start)
         0 (length torques.now) }
     ensures filled { OnOk result (entries.new ≡
-        overwritten (tabulate (part_entry (bench_of bench.now) rows.entry.bytes.now) (length torques.now)) entries.old) }
+        overwritten (tabulate (part_entry (bench_of bench.now) rows.entry.bytes.now) (length torques.now))
+        entries.old) }
 {
     let length = bench.row_length();
     for (i, torque) in torques.iter().enumerate() {
