@@ -1,11 +1,10 @@
 -- What the build's answer is for C, and demand 3 of what it leaves there. Assumes nothing.
-use Rattle.std.proofs.Common.{ℕ, ◌≡◌, refl, ap, List, arith, length, take, Result, Ok, Err}
+use Rattle.std.proofs.Common.{ℕ, ◌≡◌, ap, List, arith, Result, Ok, Err}
 use Rattle.std.specs.Result.{result_unwrap_or}
 use Rattle.refusal.proofs.Numbers.{number_between}
 use Rattle.refusal.specs.declared.Refusal.{Refusal}
 use Rattle.grid.specs.declared.Grid.{Grid}
 use Rattle.layout.specs.Rules.{AreBytes}
-use Rattle.map.specs.Build.{build}
 use Rattle.map.specs.Answers.{Builds}
 use Rattle.accuracy.proofs.Demand.{demand3}
 use Rattle.axle.specs.Interface.{status_of}

@@ -5,14 +5,19 @@ ghost use Rattle.std.specs.Prelude.{◌≡◌, ◌*◌, ◌≤◌, length};
 ghost use Rattle.refusal.specs.Outcome.{refusal};
 ghost use Rattle.refusal.specs.Table.{told, outcome_of};
 ghost use Rattle.buffer.specs.Written.{HasRoom, Appends, fitted, content_of};
-ghost use Rattle.listing.specs.Listing.{line, row, rows, refusal_line, listing, listed};
+ghost use Rattle.listing.specs.Listing.{header as first_line, line, row, rows, refusal_line, listing, listed};
 
 use buffer::Writer;
 use grid::Grid;
 use refusal::Refusal;
 
-// The first line of a listing.
-const HEADER: [u8; 18] = *b"speed,torque,loss\n";
+// The first line of a listing, without its line feed.
+#[tactic(auto, unfolding(crate::specs::Listing::header))]
+pub fn header() -> [u8; 17]
+    ensures { result ≡ first_line }
+{
+    *b"speed,torque,loss"
+}
 
 // How many bytes the line of one entry takes.
 fn line_length(speed: u16, torque: u16, loss: u32) -> usize
@@ -69,7 +74,7 @@ fn listing_length(grid: &Grid, entries: &[u32]) -> usize
 {
     let speeds = &grid.speeds.numbers[..grid.speeds.count];
     let torques = &grid.torques.numbers[..grid.torques.count];
-    let mut total = HEADER.len();
+    let mut total = 18;
     for (i, speed) in speeds.iter().enumerate() {
         let first = i * torques.len();
         total += row_length(*speed, torques, &entries[first..first + torques.len()]);
@@ -86,7 +91,8 @@ fn write_listing(grid: &Grid, entries: &[u32], text: &mut Writer)
 {
     let speeds = &grid.speeds.numbers[..grid.speeds.count];
     let torques = &grid.torques.numbers[..grid.torques.count];
-    text.bytes(&HEADER);
+    text.bytes(&header());
+    text.bytes(b"\n");
     for (i, speed) in speeds.iter().enumerate() {
         let first = i * torques.len();
         write_row(

@@ -23,4 +23,5 @@ pub returns : goal.returns
 unfolding header listing rows
 returns c =
     let done : c.loop-i.i ≡ c.args.grid.now.speeds.count = omega arith in
-    rw (← done) (appends_then c.bytes.ensures c.loop-i.invariant.1)
+    let first = appends_then (rw c.header.ensures at c.bytes.ensures) c.bytes-2.ensures in
+    rw (← done) (appends_then first c.loop-i.invariant.1)
