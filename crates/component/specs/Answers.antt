@@ -6,19 +6,27 @@ use Rattle.grid.specs.Map.{counted_numbers}
 use Rattle.grid.specs.declared.Grid.{Grid}
 use Rattle.component.specs.Component.{Run, Axle as AxleSays, AxesNumbers, Rows as RowsSay, Kind, standard, measured, Component as ComponentSays, component}
 use Rattle.sensor.specs.declared.Sensor.{Sensor}
+use Rattle.component.specs.declared.Kind.{Kind as KindRead}
+use Rattle.component.specs.declared.Kind.TheVariants.{Standard, Measured, HalfShafts}
 use Rattle.component.specs.declared.Run.{Run as RunRead}
 use Rattle.component.specs.declared.Axle.{Axle}
 use Rattle.component.specs.declared.Outputs.{Outputs}
 use Rattle.component.specs.declared.Rows.{Rows}
-use Rattle.component.specs.declared.Measured.{Measured}
+use Rattle.component.specs.declared.Measured.{Measured as MeasuredRead}
 use Rattle.component.specs.declared.Component.{Component}
+
+-- the number that tag 1 has for a kind
+abbrev pub number_of : KindRead → ℕ
+number_of Standard = 1
+number_of Measured = 2
+number_of HalfShafts = 3
 
 -- what the value of a run stands for
 abbrev pub run_of : {A B : Type 0} → (A → B) → RunRead A → Run B
 run_of meaning run = record { value = meaning run.value; next = run.next.at }
 
 abbrev pub axle_run_of : RunRead Axle → Run AxleSays
-axle_run_of run = run_of (λ a. record { kind = a.kind; line = a.line; ratio = a.ratio }) run
+axle_run_of run = run_of (λ a. record { kind = number_of a.kind; line = a.line; ratio = a.ratio }) run
 
 abbrev pub axes_run_of : RunRead Grid → Run AxesNumbers
 axes_run_of run = run_of (λ grid. record { speeds = counted_numbers grid.speeds; torques = counted_numbers grid.torques }) run
@@ -46,17 +54,17 @@ abbrev pub outputs_run_of : RunRead Outputs → Run (List Sensor)
 outputs_run_of run = run_of (λ outputs. output_sensors outputs.output outputs.right) run
 
 -- the kind, with the fields that only measured data has
-abbrev pub measured_in : Measured → Kind
+abbrev pub measured_in : MeasuredRead → Kind
 measured_in m = measured m.input (output_sensors m.output m.right) (rows_of m.rows)
 
-abbrev pub kind_in : Option Measured → Kind
+abbrev pub kind_in : Option MeasuredRead → Kind
 kind_in None = standard
 kind_in (Some m) = measured_in m
 
-abbrev pub measured_run_of : RunRead Measured → Run Kind
+abbrev pub measured_run_of : RunRead MeasuredRead → Run Kind
 measured_run_of run = run_of measured_in run
 
-abbrev pub kind_run_of : RunRead (Option Measured) → Run Kind
+abbrev pub kind_run_of : RunRead (Option MeasuredRead) → Run Kind
 kind_run_of run = run_of kind_in run
 
 -- of numbers that are handed over: the output sensors of a measured kind by its number; of kind 2 the right one means nothing

@@ -4,7 +4,7 @@
 ghost use Rattle.std.specs.Prelude.{◌≡◌, ◌+◌, ◌*◌, ◌≤◌, length, IfOk, IfSome};
 ghost use Rattle.refusal.specs.Table.{outcome_as};
 ghost use Rattle.component.specs.Component.{output_tags, rows_tag, row_length, kind_number, axle_fields, axes_fields, sensor_fields, measured_fields, kind_fields};
-ghost use Rattle.component.specs.Answers.{axle_run_of, axes_run_of, CountsWithin, outputs_run_of, measured_run_of, kind_in, kind_run_of, RowsWithin, Reads};
+ghost use Rattle.component.specs.Answers.{number_of, axle_run_of, axes_run_of, CountsWithin, outputs_run_of, measured_run_of, kind_in, kind_run_of, RowsWithin, Reads};
 
 use fields::{Allowed, Cursor, Width};
 use grid::{Grid, Range};
@@ -41,16 +41,48 @@ pub struct Component<'a> {
     pub measured: Option<Measured<'a>>,
 }
 
+// The kinds of component data.
+#[derive(Clone, Copy)]
+pub enum Kind {
+    Standard,
+    Measured,
+    // measured, with an output sensor on each half shaft
+    HalfShafts,
+}
+
+impl Kind {
+    // Its number in the data, which for a measured kind is that of its sensors.
+    pub fn number(self) -> u16
+        ensures { result ≡ number_of self }
+    {
+        match self {
+            Kind::Standard => 1,
+            Kind::Measured => 2,
+            Kind::HalfShafts => 3,
+        }
+    }
+
+    fn from_number(number: u16) -> Kind
+        requires { (1 ≤ number) × (number ≤ 3) }
+        ensures { number_of result ≡ number }
+    {
+        match number {
+            1 => Kind::Standard,
+            2 => Kind::Measured,
+            _ => Kind::HalfShafts,
+        }
+    }
+}
+
 impl Component<'_> {
-    // The number of the kind: 1 standard, 2 measured, 3 measured with an output sensor on each half shaft.
-    pub fn kind(&self) -> u16
-        ensures { result ≡ kind_number (kind_in self.now.measured) }
+    pub fn kind(&self) -> Kind
+        ensures { number_of result ≡ kind_number (kind_in self.now.measured) }
     {
         match self.measured {
-            None => 1,
+            None => Kind::Standard,
             Some(measured) => match measured.right {
-                None => 2,
-                Some(_) => 3,
+                None => Kind::Measured,
+                Some(_) => Kind::HalfShafts,
             },
         }
     }
@@ -81,7 +113,7 @@ struct Run<T> {
 
 #[derive(Clone, Copy)]
 struct Axle {
-    pub kind: u16,
+    pub kind: Kind,
     pub line: u16,
     pub ratio: u16,
 }
@@ -96,7 +128,7 @@ fn read_axle(data: &[u8], start: Cursor) -> Result<Run<Axle>, Refusal>
     let ratio = line.next.number(data, 3, Width::Two, RATIOS)?;
     Ok(Run {
         value: Axle {
-            kind: kind.value,
+            kind: Kind::from_number(kind.value),
             line: line.value,
             ratio: ratio.value,
         },
@@ -133,11 +165,11 @@ struct Outputs {
 
 // Tag 7, and where the kind has a sensor on each half shaft tag 9.
 #[tactic(auto, unfolding(crate::specs::Component::output_tags, crate::specs::Component::sensor_fields))]
-fn read_outputs(data: &[u8], start: Cursor, kind: u16) -> Result<Run<Outputs>, Refusal>
-    ensures { outcome_as outputs_run_of result ≡ sensor_fields «data».now start.at (output_tags kind) }
+fn read_outputs(data: &[u8], start: Cursor, kind: Kind) -> Result<Run<Outputs>, Refusal>
+    ensures { outcome_as outputs_run_of result ≡ sensor_fields «data».now start.at (output_tags (number_of kind)) }
 {
     let output = start.sensor(data, 7)?;
-    if kind == 2 {
+    if let Kind::Measured = kind {
         return Ok(Run {
             value: Outputs {
                 output: output.value,
@@ -164,12 +196,12 @@ pub fn rows_tag(kind: u16) -> u8
     if kind == 2 { 8 } else { 10 }
 }
 
-// How many bytes the rows have: four for each sensor, of which there are as many as the kind's number, at each point.
-fn rows_length(kind: u16, points: usize) -> usize
+// How many bytes the rows have: four for each sensor at each point.
+fn rows_length(sensors: u16, points: usize) -> usize
     requires { points ≤ 2048 }
-    ensures { result ≡ row_length kind * points }
+    ensures { result ≡ row_length sensors * points }
 {
-    4 * (kind as usize) * points
+    4 * usize::from(sensors) * points
 }
 
 // From tag 6 on, for so many points.
@@ -177,17 +209,18 @@ fn rows_length(kind: u16, points: usize) -> usize
 fn read_measured(
     data: &[u8],
     start: Cursor,
-    kind: u16,
+    kind: Kind,
     points: usize,
 ) -> Result<Run<Measured<'_>>, Refusal>
     requires { points ≤ 2048 }
-    ensures answer { outcome_as measured_run_of result ≡ measured_fields «data».now start.at kind points }
+    ensures answer { outcome_as measured_run_of result ≡ measured_fields «data».now start.at (number_of kind) points }
     ensures rows_within { IfOk result (λ run. RowsWithin (length «data».now) run.value.rows) }
 {
     let input = start.sensor(data, 6)?;
     let outputs = read_outputs(data, input.next, kind)?;
-    let allowed = Allowed::Exactly(rows_length(kind, points));
-    let rows = outputs.next.field(data, rows_tag(kind), allowed)?;
+    let sensors = kind.number();
+    let allowed = Allowed::Exactly(rows_length(sensors, points));
+    let rows = outputs.next.field(data, rows_tag(sensors), allowed)?;
     Ok(Run {
         value: Measured {
             input: input.value,
@@ -207,14 +240,14 @@ fn read_measured(
 fn read_kind(
     data: &[u8],
     start: Cursor,
-    kind: u16,
+    kind: Kind,
     points: usize,
 ) -> Result<Run<Option<Measured<'_>>>, Refusal>
     requires { points ≤ 2048 }
-    ensures answer { outcome_as kind_run_of result ≡ kind_fields «data».now start.at kind points }
+    ensures answer { outcome_as kind_run_of result ≡ kind_fields «data».now start.at (number_of kind) points }
     ensures rows_within { IfOk result (λ run. IfSome run.value (λ m. RowsWithin (length «data».now) m.rows)) }
 {
-    if kind == 1 {
+    if let Kind::Standard = kind {
         return Ok(Run {
             value: None,
             next: start,

@@ -190,7 +190,8 @@ impl Cursor {
         width: Width,
         range: Range,
     ) -> Result<Field<u16>, Refusal>
-        ensures { outcome_as field_of result ≡ field «data».now self.at tag (exactly (number_bytes width)) (number range) }
+        ensures answer { outcome_as field_of result ≡ field «data».now self.at tag (exactly (number_bytes width)) (number range) }
+        ensures in_range { IfOk result (λ field. (range.lowest ≤ field.value) × (field.value ≤ range.highest)) }
     {
         let found = self.field(data, tag, Allowed::Exactly(width.bytes()))?;
         let value = number_of(found.body);

@@ -211,7 +211,7 @@ fn numbers_of(component: &Component) -> Numbers {
         None => (none, none, none),
     };
     Numbers {
-        kind: component.kind(),
+        kind: component.kind().number(),
         line: component.line,
         ratio: component.ratio,
         grid: component.grid,

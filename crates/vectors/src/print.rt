@@ -51,7 +51,7 @@ fn write_measured(out: &mut impl Write, measured: &Measured) -> io::Result<()> {
 }
 
 pub fn write_component(out: &mut impl Write, component: &Component) -> io::Result<()> {
-    let kind = component.kind();
+    let kind = component.kind().number();
     let Component {
         line,
         ratio,

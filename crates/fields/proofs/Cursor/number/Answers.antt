@@ -1,11 +1,13 @@
 use Rattle.std.proofs.Common.{arith}
 use Rattle.std.proofs.lemmas.Result.{err_from_is_err_and}
+use Rattle.std.proofs.Common.{sym, ◌∙◌}
 use Rattle.fields.proofs.Heads.{exact_body, head_refused, body_refused, body_accepted}
 use Rattle.fields.proofs.Bodies.{number_accepted, number_refused}
+use Rattle.grid.proofs.AxisLaws.{in_range}
 use Rattle.fields.proofs.Cursor.number.Goals as goal
 
-pub returns-in_err-found : goal.returns-in_err-found
-returns-in_err-found c =
+pub returns-in_err-found-clause-answer : goal.returns-in_err-found-clause-answer
+returns-in_err-found-clause-answer c =
     let exit = err_from_is_err_and c.from_residual.result c.from_residual.ensures.1 in
     rw (exit.1, exit.2) (head_refused _ _ _ _ _ _ (rw c.bytes.ensures.answer at c.in_err-found.ensures.answer))
 
@@ -14,12 +16,15 @@ number_of-value-requires c =
     let l = exact_body _ _ _ _ _ c.in_ok-found.ensures.body _ c.in_ok-found.ensures.answer in
     omega (arith, l.0, c.bytes.ensures.one_or_two)
 
-pub returns-then-not-contains : goal.returns-then-not-contains
-returns-then-not-contains c =
+pub returns-then-not-contains-clause-answer : goal.returns-then-not-contains-clause-answer
+returns-then-not-contains-clause-answer c =
     body_refused _ _ _ _ _ _ (rw c.bytes.ensures.answer at c.in_ok-found.ensures.answer) _
     (number_refused _ _ _ _ _ (rw c.in_ok-found.ensures.body at c.number_of-value.ensures) c.contains.ensures c.if-not-contains.true)
 
-pub returns : goal.returns
-returns c =
+pub returns-clause-answer : goal.returns-clause-answer
+returns-clause-answer c =
     body_accepted _ _ _ _ _ _ (rw c.bytes.ensures.answer at c.in_ok-found.ensures.answer) _
     (number_accepted _ _ _ _ _ (rw c.in_ok-found.ensures.body at c.number_of-value.ensures) c.contains.ensures c.if-not-contains.false)
+
+pub returns-clause-in_range : goal.returns-clause-in_range
+returns-clause-in_range c = in_range _ _ (sym c.contains.ensures ∙ c.if-not-contains.false)
