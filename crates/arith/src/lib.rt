@@ -61,6 +61,7 @@ fn root_up_by_bisection(n: u64) -> u64
     }
     let mut low: u64 = 0;
     let mut high: u64 = 4294967296;
+    // Halves an interval and counts no index, so no `for` fits.
     while low + 1 < high {
         let middle = (low + high) / 2;
         if middle * middle < n {

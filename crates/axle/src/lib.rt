@@ -1,5 +1,6 @@
 // The library for C and Rust: include/axle.h says the same for a C programmer. The crate axle_c exports these functions.
-// Each answer has the refusal's number, 0 where there is none, its place, and the values apart from them. No function requires anything of its caller but that what is lent is there.
+// Each answer has the refusal's number, 0 where there is none, its place, and the values apart from them; an axis is an array
+// and a count. C has no `Result` and no enum with values. No function requires anything of its caller but that what is lent is there.
 #![tactic(auto)]
 
 ghost use Rattle.std.specs.Prelude.{◌≡◌, length};

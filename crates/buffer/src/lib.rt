@@ -5,7 +5,8 @@ ghost use Rattle.std.specs.Prelude.{◌≡◌, [], ◌∷◌, ◌≤◌, length}
 ghost use Rattle.buffer.specs.Digits.{last_digits, digit_count, decimal, hundredths};
 ghost use Rattle.buffer.specs.Written.{HasRoom, Appends};
 
-// How many digits a number has. The short ones, which a listing is made of, are told by comparing alone.
+// How many digits a number has. The short ones, which a listing is made of, are told by comparing alone. (No `From` makes
+// a `u32` a `usize`.)
 pub fn digit_count(n: usize) -> usize
     ensures answer { result ≡ digit_count n }
     ensures at_most { result ≤ 20 }
@@ -47,7 +48,7 @@ impl Writer<'_> {
         self.at = end;
     }
 
-    // Writes the last count digits of n.
+    // Writes the last count digits of n. The cast is of a digit, and fits.
     fn digits(&mut self, n: usize, count: usize)
         requires { HasRoom count self.old }
         ensures { Appends (last_digits count n) self.old self.new }

@@ -1,3 +1,1 @@
-pub mod Indices
-pub mod Signs
 pub mod Rounding

@@ -1,10 +1,12 @@
 // A cell of a map, and the loss within it.
 #![tactic(auto)]
 
-ghost use Rattle.std.specs.Prelude.{◌≡◌, ◌*◌, ◌<◌, ◌≤◌, ◌^◌, length, get_or};
+ghost use Rattle.std.specs.Prelude.{◌≡◌, ◌*◌, ◌<◌, ◌≤◌, ◌^◌};
 ghost use Rattle.arith.specs.Fraction.{◌less◌over◌};
 ghost use Rattle.cell.specs.Rounding.{ceiling};
 ghost use Rattle.cell.specs.Interpolation.{cell_numbers, interpolation, CellThere, CellBounds};
+
+use grid::Grid;
 
 // A cell: its speeds x in tenths of rpm, its torques y in hundredths of Nm, and the entries e at its corners, by speed and then by torque.
 #[derive(Clone, Copy)]
@@ -21,19 +23,16 @@ pub struct CellNumbers {
 
 // The cell whose lower speed is number i and whose lower torque is number j.
 #[tactic(auto, unfolding(crate::specs::Interpolation::cell_numbers))]
-pub fn cell_numbers(
-    speeds: &[u16; 32],
-    torques: &[u16; 64],
-    torque_count: usize,
-    entries: &[u32],
-    i: usize,
-    j: usize,
-) -> CellNumbers
-    requires { CellThere torque_count entries.now (record { speed = i; torque = j }) }
-    ensures { result ≡ cell_numbers speeds.now torques.now torque_count entries.now (record { speed = i; torque = j }) }
+pub fn cell_numbers(grid: &Grid, entries: &[u32], i: usize, j: usize) -> CellNumbers
+    requires { CellThere grid.now.torques.count entries.now (record { speed = i; torque = j }) }
+    ensures { result ≡
+        cell_numbers grid.now.speeds.numbers grid.now.torques.numbers grid.now.torques.count entries.now
+        (record { speed = i; torque = j }) }
 {
-    let lower = i * torque_count + j;
-    let upper = lower + torque_count;
+    let speeds = &grid.speeds.numbers;
+    let torques = &grid.torques.numbers;
+    let lower = i * grid.torques.count + j;
+    let upper = lower + grid.torques.count;
     CellNumbers {
         x0: 10 * u64::from(speeds[i]),
         x1: 10 * u64::from(speeds[i + 1]),
@@ -76,7 +75,7 @@ fn weighted(speed: u64, torque: u64, entry: u64) -> u64
     speed * torque * entry
 }
 
-// (plus - minus) / denominator rounded up, "also under zero".
+// (plus - minus) / denominator rounded up, "also under zero". Both are below 2^63, so the casts fit.
 #[tactic(auto, using(crate::proofs::Rounding::ceilings))]
 fn ceiling(plus: u64, minus: u64, denominator: u64) -> i64
     requires denominator { 0 < denominator }
@@ -89,12 +88,4 @@ fn ceiling(plus: u64, minus: u64, denominator: u64) -> i64
     } else {
         -(((minus - plus) / denominator) as i64)
     }
-}
-
-// An axis number.
-pub fn number(numbers: &[u16], i: usize) -> u64
-    requires { i < length numbers.now }
-    ensures { (result ≡ get_or numbers.now i 0) × (result < 2 ^ 16) }
-{
-    u64::from(numbers[i])
 }

@@ -11,7 +11,8 @@ use grid::{Grid, Range};
 use refusal::Refusal;
 use sensor::Sensor;
 
-// The rows of tag 8 or 10: the place of the first byte in the data, and their bytes.
+// The rows of tag 8 or 10: the place of the first byte in the data, and their bytes. That place and length together fit 64
+// bits is a clause where it is needed: a ghost field's definition would name this type, and this type the definition.
 #[derive(Clone, Copy)]
 pub struct Rows<'a> {
     pub start: usize,
@@ -32,7 +33,7 @@ pub struct Measured<'a> {
 // The numbers that component data says.
 #[derive(Clone, Copy)]
 pub struct Component<'a> {
-    // the axle line, 1 to 5: SR, SRT, SP, HR, HRT
+    // the axle line, 1 to 5: SR, SRT, SP, HR, HRT; a number, for it is the index of the table of lines
     pub line: u16,
     // thousandths
     pub ratio: u16,
@@ -114,6 +115,7 @@ struct Run<T> {
 #[derive(Clone, Copy)]
 struct Axle {
     pub kind: Kind,
+    // a number, as in `Component`
     pub line: u16,
     pub ratio: u16,
 }
@@ -188,7 +190,7 @@ fn read_outputs(data: &[u8], start: Cursor, kind: Kind) -> Result<Run<Outputs>, 
     })
 }
 
-// The tag of the rows.
+// The tag of the rows, of any number: the writer asks it of a kind that no test has seen.
 #[tactic(auto, unfolding(crate::specs::Component::rows_tag))]
 pub fn rows_tag(kind: u16) -> u8
     ensures { result ≡ rows_tag kind }
@@ -197,11 +199,11 @@ pub fn rows_tag(kind: u16) -> u8
 }
 
 // How many bytes the rows have: four for each sensor at each point.
-fn rows_length(sensors: u16, points: usize) -> usize
+fn rows_length(kind: Kind, points: usize) -> usize
     requires { points ≤ 2048 }
-    ensures { result ≡ row_length sensors * points }
+    ensures { result ≡ row_length (number_of kind) * points }
 {
-    4 * usize::from(sensors) * points
+    4 * usize::from(kind.number()) * points
 }
 
 // From tag 6 on, for so many points.
@@ -218,9 +220,8 @@ fn read_measured(
 {
     let input = start.sensor(data, 6)?;
     let outputs = read_outputs(data, input.next, kind)?;
-    let sensors = kind.number();
-    let allowed = Allowed::Exactly(rows_length(sensors, points));
-    let rows = outputs.next.field(data, rows_tag(sensors), allowed)?;
+    let allowed = Allowed::Exactly(rows_length(kind, points));
+    let rows = outputs.next.field(data, rows_tag(kind.number()), allowed)?;
     Ok(Run {
         value: Measured {
             input: input.value,

@@ -80,6 +80,7 @@ fn write_field<T: FieldNumber>(tag: u8, numbers: &[T], file: &mut Writer)
 {
     let size = T::SIZE * numbers.len();
     tag.write(file);
+    // fits: the first clause asks for it
     (size as u16).write(file);
     for number in numbers {
         number.write(file);
@@ -121,6 +122,7 @@ pub fn encode(numbers: &Numbers, rows: &[u32], file: &mut Writer)
 {
     let speeds = &numbers.grid.speeds;
     let torques = &numbers.grid.torques;
+    // the two casts fit, for the numbers have passed their tests
     write_field(1, &[numbers.kind as u8], file);
     write_field(2, &[numbers.line as u8], file);
     write_field(3, &[numbers.ratio], file);

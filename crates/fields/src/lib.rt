@@ -120,7 +120,8 @@ pub struct Field<T> {
     pub next: Cursor,
 }
 
-// Writes the numbers of an axis body to the first places of what is lent; place is where the body starts in the data.
+// Writes the numbers of an axis body to the first places of what is lent; place is where the body starts in the data,
+// apart from it here and below, for a struct of the two would be taken apart at once.
 fn read_numbers(body: &[u8], place: usize, range: Range, numbers: &mut [u16]) -> Result<(), Refusal>
     requires { (length body.now ≤ length numbers.old * 2) × (place + length body.now < 2 ^ 64) }
     ensures { outcome_as (λ nothing. take (length body.now / 2) numbers.new) result ≡ axis range body.now place }
@@ -166,7 +167,7 @@ impl Cursor {
             return Err(Refusal::WrongTag(at));
         }
         let start = at + 3;
-        let length = number_of(&data[at + 1..start]) as usize;
+        let length = usize::from(number_of(&data[at + 1..start]));
         if !allowed.contains(length) {
             return Err(Refusal::WrongLength(at));
         }

@@ -62,10 +62,6 @@ every_same f g (suc n) same =
     let here : f n ≡ g n = same n (omega arith) in
     rw (every_same f g n (λ i h. same i (omega arith)), here)
 
-pub flag_none : (test : ℕ → Bool) → true ≡ every test 0
-unfolding every
-flag_none test = refl
-
 pub flag_first : (test : ℕ → Bool) (b : Bool) → b ≡ test 0 → b ≡ every test 1
 unfolding every
 flag_first test b h = h

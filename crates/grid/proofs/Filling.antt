@@ -92,8 +92,3 @@ module _ (check : ℕ → Outcome (Unit {0})) (f : ℕ → List ℕ) (n count : 
               rw add-one
               (tail_back first now part ∙ rw (e, sizes i more, tail_lent first now, p.written) (part_written (joined f i) (f i) before first n s));
         }
-
-    pub all_joined : count ≤ i → now ≡ overwritten (joined f count) before
-    all_joined end =
-        let e : i ≡ count = omega (arith, p.passed.below) in
-        p.written ∙ rw (length_joined f n count sizes, p.at, e)

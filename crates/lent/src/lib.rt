@@ -30,7 +30,8 @@ fn none_too_large(entries: &[u32]) -> bool
     entries.iter().all(|entry| *entry <= LARGEST_ENTRY)
 }
 
-// Whether there are count entries, and none of the first count above the largest.
+// Whether there are count entries, and none of the first count above the largest. The count is the points of a map, and
+// that as many are lent is what is tested here.
 // Where the joined entries are at most the largest, each is, and one comparison is enough.
 pub fn entries_valid(entries: &[u32], count: usize) -> bool
     ensures { result ≡ valid_entries entries.now count }

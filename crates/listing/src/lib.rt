@@ -23,6 +23,7 @@ pub fn header() -> [u8; 17]
 fn line_length(speed: u16, torque: u16, loss: u32) -> usize
     ensures { (result ≡ length (line speed torque loss)) × (result ≤ 66) }
 {
+    // (no `From` makes a `u32` a `usize`, here and below)
     let loss_length = buffer::digit_count(loss as usize / 100) + 3;
     buffer::digit_count(usize::from(speed))
         + buffer::digit_count(usize::from(torque))

@@ -13,7 +13,8 @@ use Rattle.arith.proofs.Fractions.{rounds_up_same}
 use Rattle.refusal.specs.Outcome.{accepted, refuse, ◌>>=◌, require}
 use Rattle.refusal.proofs.Steps.{test_accepted, same_value}
 use Rattle.grid.proofs.Every.{and_false, and_fst, and_snd}
-use Rattle.grid.specs.Map.{counted_numbers, valid_map}
+use Rattle.grid.specs.Axis.{valid_numbers}
+use Rattle.grid.specs.Map.{counted_numbers, valid_speeds, valid_grid, valid_map}
 use Rattle.grid.specs.declared.Grid.{Grid}
 use Rattle.cell.specs.Cell.{Point, Within, Cell, Has, sum, corners, entry_at}
 use Rattle.lookup.specs.Loss.{cell_of, loss_at, loss_answer}
@@ -34,6 +35,11 @@ module _ (grid : Grid) (entries : List ℕ) (p : Point) where
   pub map_refused : valid_map grid entries ≡ false → loss_answer grid entries p ≡ refuse 22 0
   unfolding loss_answer
   map_refused e = rw e
+
+  -- nor are axes with no number, as a refused build leaves them
+  pub no_axes_refused : grid.speeds.count ≡ 0 → loss_answer grid entries p ≡ refuse 22 0
+  unfolding valid_map valid_grid valid_speeds valid_numbers
+  no_axes_refused e = map_refused (rw e)
 
   module _ (valid : valid_map grid entries ≡ true) where
     -- the speed is outside its axis

@@ -51,14 +51,7 @@ fn loss_within(grid: &Grid, entries: &[u32], speed: u64, torque: u64) -> i64
 {
     let i = neighbour(&grid.speeds.numbers[..grid.speeds.count], 10, speed);
     let j = neighbour(&grid.torques.numbers[..grid.torques.count], 100, torque);
-    let cell = cell::cell_numbers(
-        &grid.speeds.numbers,
-        &grid.torques.numbers,
-        grid.torques.count,
-        entries,
-        i,
-        j,
-    );
+    let cell = cell::cell_numbers(grid, entries, i, j);
     cell::interpolate(cell, speed, torque)
 }
 

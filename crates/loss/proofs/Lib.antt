@@ -5,6 +5,7 @@ pub mod Lines
 pub mod Parts
 pub mod Roots
 pub mod Readings
+pub mod Rows
 pub mod Cuts
 pub mod Accuracy
 pub mod ExactCases

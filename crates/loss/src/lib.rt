@@ -63,7 +63,7 @@ fn line_of(number: u16) -> Line
     LINES.get(usize::from(number)).copied().unwrap_or(NO_LINE)
 }
 
-// The standard entry: the exact loss rounded up to a hundredth of Nm.
+// The standard entry: the exact loss rounded up to a hundredth of Nm. It takes any number as the line.
 pub fn standard_entry(line: u16, ratio: u16, torque: u16) -> u64
     ensures entry { result ≡ standard_entry line ratio torque }
     ensures bound { result < 2 ^ 32 }
@@ -175,6 +175,7 @@ impl PreparedSensor {
             product(self.sensor.sensitivity, self.sensor.difference, torque),
             100_000 * u64::from(self.sensor.span),
         );
+        // fits: it is at most 43,000,000
         let uncertainty = sensor_uncertainty(sensitivity, zero, calibration, parasitic);
         Steps {
             sensitivity,

@@ -7,7 +7,7 @@ ghost use Rattle.lossmap.specs.Input.{IsInput};
 use std::io;
 use std::io::{Read, Write};
 
-// Reads until the input ends or the room is full, and says how many bytes it read.
+// Reads until the input ends or the room is full, and says how many bytes it read. `read_to_end` would need a heap.
 fn read_input<R: Read>(reader: &mut R, room: &mut [u8]) -> io::Result<usize>
     ensures within { IfOk result (λ n. n ≤ length room.old) }
     ensures whole { IfOk result (λ n. IsInput (R.remaining reader.old) (length room.old) (take n room.new)) }

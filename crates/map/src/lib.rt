@@ -38,27 +38,32 @@ fn build_rows(from: &[u32], step: usize, size: usize, speeds: usize, entries: &m
     }
 }
 
-// The standard row, which all speeds share.
-fn standard_row(line: u16, ratio: u16, torques: &[u16]) -> [u32; 64]
+// The standard row, which all speeds share. An entry fits 32 bits, as `standard_entry` says.
+fn standard_row(component: &Component, torques: &[u16]) -> [u32; 64]
     requires { length torques.now ≤ 64 }
     ensures { result ≡
-        overwritten (tabulate (standard_at line ratio torques.now) (length torques.now)) (replicate 64 0) }
+        overwritten
+        (tabulate (standard_at component.now.line component.now.ratio torques.now) (length torques.now))
+        (replicate 64 0) }
 {
     let mut row = [0u32; 64];
     for (i, torque) in torques.iter().enumerate() {
-        row[i] = loss::standard_entry(line, ratio, *torque) as u32;
+        row[i] = loss::standard_entry(component.line, component.ratio, *torque) as u32;
     }
     row
 }
 
 // Standard entries: the row that all speeds share, once for each speed.
 #[tactic(auto, using(crate::proofs::Copying::same_row, grid::proofs::Lists::length_tabulate), unfolding(crate::specs::Answers::standard_row))]
-fn build_standard(line: u16, ratio: u16, speeds: usize, torques: &[u16], entries: &mut [u32])
+fn build_standard(component: &Component, speeds: usize, torques: &[u16], entries: &mut [u32])
     requires torques { length torques.now ≤ 64 }
     requires entries { speeds * length torques.now ≤ length entries.old }
-    ensures { entries.new ≡ overwritten (joined (standard_row line ratio torques.now) speeds) entries.old }
+    ensures { entries.new ≡
+        overwritten
+        (joined (standard_row component.now.line component.now.ratio torques.now) speeds)
+        entries.old }
 {
-    let row = standard_row(line, ratio, torques);
+    let row = standard_row(component, torques);
     build_rows(&row, 0, torques.len(), speeds, entries);
 }
 
@@ -103,7 +108,7 @@ fn build_entries(component: &Component, entries: &mut [u32]) -> Result<(), Refus
     }
     match &component.measured {
         None => {
-            build_standard(component.line, component.ratio, speeds, torques, entries);
+            build_standard(component, speeds, torques, entries);
             Ok(())
         }
         Some(measured) => {

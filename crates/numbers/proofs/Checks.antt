@@ -1,12 +1,12 @@
 -- Laws of the tests of numbers that are handed over. Assumes nothing.
 use Prim.Native.Nat.{ℕ, ◌≤◌, ◌<◌}
-use mathlib.Core.Path.{◌≡◌, refl}
+use mathlib.Core.Path.{◌≡◌}
 use mathlib.Core.List.{List}
 use borrow.Author.Tests.{lt-leb}
 use lib.ListN.{length}
 use lib.Dec.{leb}
 use mathlib.Core.Logic.{◌⊎◌, inl, inr}
-use Rattle.refusal.specs.Outcome.{Outcome, accepted, refused, refuse, ◌>>=◌, without_place}
+use Rattle.refusal.specs.Outcome.{Outcome, accepted, refuse, without_place}
 use Rattle.refusal.proofs.Steps.{then_accepted, test_accepted}
 use Rattle.grid.specs.Axis.{◌to◌, within, axis_numbers}
 use Rattle.grid.specs.declared.Range.{Range}
@@ -35,11 +35,6 @@ unfolding axis_check
 fault_told most range ns part count c o e =
     let told = rw (c.long, c.numbers) at e in
     rw (within_range (2 to most) count (c.at_least, c.at_most), told)
-
--- ---- a sequence of tests that ends with one
-pub ends_there : (o : Outcome (Unit {0})) → (o >>= λ _. accepted tt) ≡ o
-ends_there (accepted u) = refl
-ends_there (refused t) = refl
 
 -- axes that are accepted have no more numbers than places
 pub counts_within : (grid : Grid) → axes_check grid ≡ accepted tt → (grid.speeds.count ≤ 32) × (grid.torques.count ≤ 64)

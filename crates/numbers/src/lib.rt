@@ -12,7 +12,8 @@ use grid::{Axis, AxisFault, Grid, Range};
 use refusal::Refusal;
 use sensor::Sensor;
 
-// The numbers of component data but for its rows. What the kind does not have is not looked at: of kind 1 the sensors, of kind 2 the right one.
+// The numbers of component data but for its rows. The kind and the line are numbers, for any that is handed over is refused
+// in its place. What the kind does not have is not looked at: of kind 1 the sensors, of kind 2 the right one.
 #[derive(Clone, Copy)]
 pub struct Numbers {
     // 1 standard, 2 measured, 3 measured with an output sensor on each half shaft
@@ -29,16 +30,16 @@ pub struct Numbers {
 }
 
 #[tactic(auto, unfolding(crate::specs::Check::axle_check))]
-fn axle_check(kind: u16, line: u16, ratio: u16) -> Result<(), Refusal>
-    ensures { outcome_of result ≡ axle_check kind line ratio }
+fn axle_check(numbers: &Numbers) -> Result<(), Refusal>
+    ensures { outcome_of result ≡ axle_check numbers.now.kind numbers.now.line numbers.now.ratio }
 {
-    if !component::KINDS.contains(kind) {
+    if !component::KINDS.contains(numbers.kind) {
         return Err(Refusal::OutOfRange(0));
     }
-    if !component::LINES.contains(line) {
+    if !component::LINES.contains(numbers.line) {
         return Err(Refusal::OutOfRange(0));
     }
-    if !component::RATIOS.contains(ratio) {
+    if !component::RATIOS.contains(numbers.ratio) {
         return Err(Refusal::OutOfRange(0));
     }
     Ok(())
@@ -104,7 +105,7 @@ fn measured_check(numbers: &Numbers, row_torque_count: usize) -> Result<(), Refu
     }
     sensors_check(numbers)?;
     let points = numbers.grid.speeds.count * numbers.grid.torques.count;
-    if row_torque_count != (numbers.kind as usize) * points {
+    if row_torque_count != usize::from(numbers.kind) * points {
         return Err(Refusal::WrongLength(0));
     }
     Ok(())
@@ -115,7 +116,7 @@ fn measured_check(numbers: &Numbers, row_torque_count: usize) -> Result<(), Refu
 pub fn check(numbers: &Numbers, row_torque_count: usize) -> Result<(), Refusal>
     ensures { outcome_of result ≡ numbers_check numbers.now row_torque_count }
 {
-    axle_check(numbers.kind, numbers.line, numbers.ratio)?;
+    axle_check(numbers)?;
     axes_check(&numbers.grid)?;
     measured_check(numbers, row_torque_count)
 }

@@ -49,7 +49,3 @@ require_refused false number place t e = (refl, sym (same_refusal (refusal numbe
 pub placed_accepted : {A : Type 0} (at : ℕ → ℕ) (o : Outcome A) (a : A) → placed at o ≡ accepted a → o ≡ accepted a
 placed_accepted at (accepted b) a e = e
 placed_accepted at (refused t) a e = never (refusal t.number (at t.place)) a e
-
-pub placed_refused : {A : Type 0} (at : ℕ → ℕ) (o : Outcome A) (t : Told) → placed at o ≡ refused t → (u : Told) × (o ≡ refused u) × (t ≡ refusal u.number (at u.place))
-placed_refused at (accepted a) t e = never t a (sym e)
-placed_refused at (refused u) t e = (u, refl, sym (same_refusal (refusal u.number (at u.place)) t e))

@@ -27,6 +27,7 @@ struct Torques {
 }
 
 // What all rows share: the ratio and the sensors. Where there is a right output, output is the left one.
+// That its sensors are right is a clause of what reckons with them: `Bench::new` takes any, and a type that said so would ask more.
 #[derive(Clone, Copy)]
 pub struct Bench {
     pub ratio: u16,
@@ -112,7 +113,7 @@ impl Bench {
         }
     }
 
-    // The loss uncertainty of a row, in grains.
+    // The loss uncertainty of a row, in grains: at most 903,000,000, so the cast fits.
     fn uncertainty(&self, torques: Torques) -> u32
         requires bench { BenchRight self.now }
         requires torques { (torques.input ≤ 5000000) × (torques.output ≤ 5000000) × (torques.right ≤ 5000000) }
@@ -153,6 +154,7 @@ impl Bench {
         if LARGEST_ENTRY < entry {
             return Err(Refusal::EntryTooLarge(place));
         }
+        // fits: it is at most the largest entry
         Ok(entry as u32)
     }
 }

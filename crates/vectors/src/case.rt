@@ -26,7 +26,8 @@ impl Kind {
 
 #[derive(Clone, Copy)]
 pub struct Head {
-    letter: u8,
+    // None where the letter is none of the five.
+    kind: Option<Kind>,
     entries: u16,
     room: u32,
     length: u32,
@@ -35,7 +36,6 @@ pub struct Head {
 
 #[derive(Clone, Copy)]
 pub struct Case<'a> {
-    // None where the letter is none of the five.
     pub kind: Option<Kind>,
     // How many entries are lent, and how many bytes.
     pub entries: usize,
@@ -51,7 +51,7 @@ impl Head {
         reader.read_exact(&mut head).ok()?;
         let [letter, e0, e1, r0, r1, r2, r3, l0, l1, l2, l3, questions] = head;
         Some(Head {
-            letter,
+            kind: Kind::from_letter(letter),
             entries: u16::from_be_bytes([e0, e1]),
             room: u32::from_be_bytes([r0, r1, r2, r3]),
             length: u32::from_be_bytes([l0, l1, l2, l3]),
@@ -61,12 +61,13 @@ impl Head {
 
     // The case, whose body and questions go into the buffer. None where they are not whole, or longer than the buffer.
     pub fn case<'a>(self, reader: &mut impl Read, buffer: &'a mut [u8]) -> Option<Case<'a>> {
+        // (no `From` makes a `u32` a `usize`, here and below)
         let length = self.length as usize;
         let rest = buffer.get_mut(..length + 8 * usize::from(self.questions))?;
         reader.read_exact(rest).ok()?;
         let (body, questions) = rest.split_at(length);
         Some(Case {
-            kind: Kind::from_letter(self.letter),
+            kind: self.kind,
             entries: usize::from(self.entries),
             room: self.room as usize,
             body,

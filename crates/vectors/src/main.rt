@@ -35,6 +35,7 @@ fn main(rt: HostRuntime) -> io::Result<()> {
         if let Some(case) = &case {
             answer::write(&mut out, case)?;
         }
+        // fits: it is a place in answers
         let length = out.position() as usize;
         stdout.write_all(&answers[..length.min(answers.len())])?;
         // The input ends within the case, or cannot be read.

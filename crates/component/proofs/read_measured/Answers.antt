@@ -9,13 +9,13 @@ pub returns-in_err-rows-clause-answer : goal.returns-in_err-rows-clause-answer
 unfolding measured_fields
 returns-in_err-rows-clause-answer c =
     let exit = err_from_is_err_and c.from_residual-in_err-rows.result c.from_residual-in_err-rows.ensures.1 in
-    let h = rw (c.rows_tag.ensures, c.rows_length.ensures, c.number-sensors.ensures) at c.in_err-rows.ensures.answer in
+    let h = rw (c.rows_tag.ensures, c.rows_length.ensures, c.number.ensures) at c.in_err-rows.ensures.answer in
     rw (exit.1, exit.2, ← c.in_ok-input.ensures, ← c.in_ok-outputs.ensures, ← head_refused _ _ _ _ rows _ h)
 
 pub returns-clause-answer : goal.returns-clause-answer
 unfolding measured_fields
 returns-clause-answer c =
-    let h = rw (c.rows_tag.ensures, c.rows_length.ensures, c.number-sensors.ensures) at c.in_ok-rows.ensures.answer in
+    let h = rw (c.rows_tag.ensures, c.rows_length.ensures, c.number.ensures) at c.in_ok-rows.ensures.answer in
     rw (c.in_ok-rows.ensures.body, ← c.in_ok-input.ensures, ← c.in_ok-outputs.ensures, ← body_accepted _ _ _ _ rows _ h _ refl)
 
 pub returns-clause-rows_within : goal.returns-clause-rows_within

@@ -5,8 +5,8 @@ use Rattle.component.proofs.rows_length.Goals as goal
 
 pub overflow_mul-result-2 : goal.overflow_mul-result-2
 overflow_mul-result-2 c =
-    let few : 4 * c.args.sensors ≤ 4 * 65535 = omega arith in
+    let few : 4 * c.number.result ≤ 4 * 65535 = omega arith in
     rw c.from.ensures (omega (arith, mul-le-mul few c.requires))
 
 pub returns : goal.returns
-returns c = rw c.from.ensures refl
+returns c = rw (c.from.ensures, c.number.ensures) refl

@@ -13,12 +13,12 @@ returns-then-kind-tag-clause-answer c = other_tag _ _ _ _ c.if-data-at.false c.i
 
 pub returns-then-not-contains-clause-answer : goal.returns-then-not-contains-clause-answer
 returns-then-not-contains-clause-answer c =
-    not_allowed _ _ _ _ c.if-data-at.false c.if-data-at-lt3.false _ c.if-kind-tag.false c.number_of-length.ensures (sym c.contains.ensures ∙ c.if-not-contains.true)
+    not_allowed _ _ _ _ c.if-data-at.false c.if-data-at-lt3.false _ c.if-kind-tag.false (c.from-length.ensures ∙ c.number_of.ensures) (sym c.contains.ensures ∙ c.if-not-contains.true)
 
 pub returns-then-data-start-clause-answer : goal.returns-then-data-start-clause-answer
 returns-then-data-start-clause-answer c =
-    past_end _ _ _ _ c.if-data-at.false c.if-data-at-lt3.false _ c.if-kind-tag.false c.number_of-length.ensures (sym c.contains.ensures ∙ c.if-not-contains.false) c.if-data-start.true
+    past_end _ _ _ _ c.if-data-at.false c.if-data-at-lt3.false _ c.if-kind-tag.false (c.from-length.ensures ∙ c.number_of.ensures) (sym c.contains.ensures ∙ c.if-not-contains.false) c.if-data-start.true
 
 pub returns-clause-answer : goal.returns-clause-answer
 returns-clause-answer c =
-    whole _ _ _ _ c.if-data-at.false c.if-data-at-lt3.false _ c.if-kind-tag.false c.number_of-length.ensures (sym c.contains.ensures ∙ c.if-not-contains.false) c.if-data-start.false
+    whole _ _ _ _ c.if-data-at.false c.if-data-at-lt3.false _ c.if-kind-tag.false (c.from-length.ensures ∙ c.number_of.ensures) (sym c.contains.ensures ∙ c.if-not-contains.false) c.if-data-start.false

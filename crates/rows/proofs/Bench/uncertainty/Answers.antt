@@ -1,8 +1,8 @@
 -- `rows::Bench::uncertainty` meets its contract: the squares fit 64 bits, and the root of their sum 32. Assumes nothing.
-use Rattle.std.proofs.Common.{ℕ, ◌≤◌, ◌*◌, List, [], ◌∷◌, ◌∙◌, arith}
-use Rattle.arith.proofs.Squares.{square_at_most}
-use Rattle.loss.specs.Measured.{sum_of_squares, loss_uncertainty, readings, reading_uncertainty, row_uncertainty}
-use Rattle.loss.proofs.Parts.{scaled_at_most, scaled_by_one, root_at_most}
+use Rattle.std.proofs.Common.{◌≤◌, [], ◌∷◌, ◌∙◌, arith}
+use Rattle.loss.specs.Measured.{readings, reading_uncertainty, row_uncertainty}
+use Rattle.loss.proofs.Parts.{scaled_at_most, scaled_by_one}
+use Rattle.loss.proofs.Rows.{squares_fit, root_fits}
 use Rattle.rows.proofs.Bench.uncertainty.Goals as goal
 use Rattle.rows.proofs.Bench.uncertainty.Goals.{After-from-output, in-Some, in-None}
 
@@ -22,30 +22,21 @@ output_most c = omega (arith, c.steps.ensures.bound)
 pub loss_uncertainty-uncertainty-requires : goal.loss_uncertainty-uncertainty-requires
 loss_uncertainty-uncertainty-requires c =
     let b = (goal.at.loss_uncertainty-uncertainty-requires c).After-from-output in
-    let right : c.from-right.result ≤ 43000000 = omega arith in
-    omega (arith, square_at_most (at_wheel_most b), square_at_most (output_most b), square_at_most right)
+    squares_fit (c.from-output.result ∷ c.from-right.result ∷ []) (at_wheel_most b) (output_most b, (omega arith, tt)) (omega arith)
 
 pub loss_uncertainty-uncertainty-requires-in-None : goal.loss_uncertainty-uncertainty-requires-in-None
 loss_uncertainty-uncertainty-requires-in-None c =
     let b = (goal.at.loss_uncertainty-uncertainty-requires-in-None c).After-from-output in
-    omega (arith, square_at_most (at_wheel_most b), square_at_most (output_most b))
-
-root_most : (parts : List ℕ) → sum_of_squares parts ≤ 903000000 * 903000000 → loss_uncertainty parts ≤ 903000000
-unfolding loss_uncertainty
-root_most parts h = root_at_most _ 903000000 h
+    squares_fit (c.from-output.result ∷ []) (at_wheel_most b) (output_most b, tt) (omega arith)
 
 pub overflow_cast-result : goal.overflow_cast-result
 overflow_cast-result c =
     let b = (goal.at.overflow_cast-result c).After-from-output in
-    let v = c.scaled_uncertainty-at_wheel.result in
-    let w = c.from-output.result in
     elim c.match-self.branch [
       | in-Some s ↦
-          let x = s.from-right.result in
-          let right : x ≤ 43000000 = omega arith in
-          let root = root_most (v ∷ w ∷ x ∷ []) (omega (arith, square_at_most (at_wheel_most b), square_at_most (output_most b), square_at_most right)) in
+          let root = root_fits (c.from-output.result ∷ s.from-right.result ∷ []) (at_wheel_most b) (output_most b, (omega arith, tt)) (omega arith) in
           record { fits = omega (arith, s.loss_uncertainty-uncertainty.ensures.uncertainty, root) }
       | in-None n ↦
-          let root = root_most (v ∷ w ∷ []) (omega (arith, square_at_most (at_wheel_most b), square_at_most (output_most b))) in
+          let root = root_fits (c.from-output.result ∷ []) (at_wheel_most b) (output_most b, tt) (omega arith) in
           record { fits = omega (arith, n.loss_uncertainty-uncertainty-in-None.ensures.uncertainty, root) }
     ]
