@@ -20,7 +20,8 @@ use numbers::Numbers;
 use refusal::Refusal;
 use sensor::Sensor;
 
-// The number of a refusal in document 01's table and its place; both 0 where nothing is refused.
+// The number of a refusal in document 01's table and its place, as each answer for C holds them; both 0 where nothing is
+// refused.
 #[derive(Clone, Copy)]
 pub struct Status {
     pub refusal: u32,
@@ -67,7 +68,7 @@ pub struct AxleLength {
     pub length: usize,
 }
 
-// The numbers of component data but for its rows. A sensor's nine numbers are in the order of the data; of kind 3 output is the left one.
+// The numbers of component data but for its rows, plain ones, as C hands them over. A sensor's nine numbers are in the order of the data; of kind 3 output is the left one.
 #[repr(C)]
 #[derive(Clone, Copy)]
 pub struct AxleNumbers {

@@ -63,6 +63,7 @@ impl Kind {
         }
     }
 
+    // Of a number that was tested, so that `TryFrom` would bring an error that cannot come.
     fn from_number(number: u16) -> Kind
         requires { (1 ≤ number) × (number ≤ 3) }
         ensures { number_of result ≡ number }
@@ -190,7 +191,7 @@ fn read_outputs(data: &[u8], start: Cursor, kind: Kind) -> Result<Run<Outputs>, 
     })
 }
 
-// The tag of the rows, of any number: the writer asks it of a kind that no test has seen.
+// The tag of the rows. It answers for any number, and a `Kind` would ask more of a caller.
 #[tactic(auto, unfolding(crate::specs::Component::rows_tag))]
 pub fn rows_tag(kind: u16) -> u8
     ensures { result ≡ rows_tag kind }

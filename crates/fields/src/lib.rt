@@ -38,7 +38,7 @@ fn number_of(bytes: &[u8]) -> u16
     }
 }
 
-// The number of the two bytes at a place.
+// The number of the two bytes at a place. (An index, for it is no plainer to cut a part for each number.)
 fn pair_at(bytes: &[u8], at: usize) -> u16
     requires { at + 2 ≤ length bytes.now }
     ensures { result ≡ get_or bytes.now at 0 * 256 + get_or bytes.now (at + 1) 0 }

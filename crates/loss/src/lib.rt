@@ -63,7 +63,8 @@ fn line_of(number: u16) -> Line
     LINES.get(usize::from(number)).copied().unwrap_or(NO_LINE)
 }
 
-// The standard entry: the exact loss rounded up to a hundredth of Nm. It takes any number as the line.
+// The standard entry: the exact loss rounded up to a hundredth of Nm. It takes any number as the line; a
+// narrower type would ask more of a caller.
 pub fn standard_entry(line: u16, ratio: u16, torque: u16) -> u64
     ensures entry { result ≡ standard_entry line ratio torque }
     ensures bound { result < 2 ^ 32 }

@@ -36,7 +36,7 @@ pub struct Bench {
     pub right: Option<PreparedSensor>,
 }
 
-// The torque at an index of the rows' bytes.
+// The torque at an index of the rows' bytes. (An index, here and in `torques_at`: it is no plainer to cut a part for each.)
 #[tactic(auto, using(crate::proofs::FourBytes::four_at), unfolding(crate::specs::Rows::torque_at))]
 fn torque_at(bytes: &[u8], at: usize) -> u32
     requires { at + 4 ≤ length bytes.now }
