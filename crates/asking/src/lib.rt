@@ -6,19 +6,21 @@ ghost use Rattle.asking.specs.Answers.{Asks};
 use grid::Grid;
 use refusal::Refusal;
 
-// The axes of the map that was built, and the answer to the query.
+// The build's answer, and the answer to the query, which is refused with 22 where the build refuses.
 #[derive(Clone, Copy)]
 pub struct Asked {
-    pub grid: Grid,
+    pub built: Result<Grid, Refusal>,
     pub loss: Result<i64, Refusal>,
 }
 
 // Builds the map of component data in the lent entries, then asks it for the loss at a point, speed in tenths of rpm and torque in hundredths of Nm.
-// Where the build refuses there is no map and nothing to ask.
-pub fn ask(data: &[u8], entries: &mut [u32], speed: u32, torque: u32) -> Result<Asked, Refusal>
+pub fn ask(data: &[u8], entries: &mut [u32], speed: u32, torque: u32) -> Asked
     ensures { Asks «data».now entries.old entries.new (record { speed = speed; torque = torque }) result }
 {
-    let grid = map::build(data, entries)?;
-    let loss = lookup::loss(&grid, entries, speed, torque);
-    Ok(Asked { grid, loss })
+    let built = map::build(data, entries);
+    let loss = match &built {
+        Ok(grid) => lookup::loss(grid, entries, speed, torque),
+        Err(_) => Err(Refusal::NotAMap),
+    };
+    Asked { built, loss }
 }

@@ -25,7 +25,7 @@ fn text_length(answer: Result<usize, Refusal>) -> usize
 }
 
 // What the map program writes for its input, of which the first 32,768 bytes count, from the start of the text, and how long it is.
-// The program's room is in the types, and is always enough.
+// The room for entries and text is in the types, and is always enough.
 pub fn program_output(input: &[u8], entries: &mut [u32; 2048], text: &mut [u8; 65536]) -> usize
     ensures { ProgramWrites (take 32768 input.now) entries.old entries.new text.old text.new result }
 {

@@ -3,7 +3,13 @@ use Rattle.layout.specs.Rules.{AreBytes}
 use Rattle.accuracy.proofs.Demand.{demand3}
 use Rattle.asking.proofs.ask.Goals as goal
 
-pub returns : goal.returns
-returns c =
+pub returns-in-Ok : goal.returns-in-Ok
+returns-in-Ok c =
     let are_bytes : AreBytes c.args.«data».now = λ i h. (c.type_inv.data i).fits in
-    record { builds = c.in_ok-grid.ensures; asked = c.loss-loss.ensures; accurate = demand3 _ _ _ are_bytes _ c.in_ok-grid.ensures }
+    let accepted = rw c.in-Ok.is at c.build-built.ensures in
+    record {
+      builds = c.build-built.ensures;
+      asked = rw c.in-Ok.is c.loss-loss.ensures;
+      no_map = λ x refused. let never = c.in-Ok.is in cc;
+      accurate = rw c.in-Ok.is (demand3 _ _ _ are_bytes _ accepted);
+    }
