@@ -23,11 +23,15 @@ fn joined(entries: &[u32]) -> u32
     all
 }
 
-// Whether none of the entries is above the largest.
+// Whether none of the entries is above the largest. No entry ends the loop, so that it runs on several at once.
 fn none_too_large(entries: &[u32]) -> bool
     ensures { IsTrue result ↔ EachIndex entries.now (λ k. slice_index entries.now k ≤ 10000000) }
 {
-    entries.iter().all(|entry| *entry <= LARGEST_ENTRY)
+    let mut none = true;
+    for i in 0..entries.len() {
+        none &= entries[i] <= LARGEST_ENTRY;
+    }
+    none
 }
 
 // Whether there are count entries, and none of the first count above the largest. The count is the points of a map, and
