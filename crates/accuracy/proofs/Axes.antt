@@ -5,7 +5,8 @@ use mathlib.Core.List.{List}
 use mathlib.Core.Logic.{⊎_elim}
 use native.Mathlib.Omega.{arith}
 use lib.ListN.{get_or}
-use Rattle.cell.specs.Cell.{Point, Cell, Has}
+use Rattle.cell.specs.Cell.{Cell, Has}
+use Rattle.cell.specs.declared.Point.{Point}
 use Rattle.lookup.proofs.Axes.{RisingAxes, rise_le}
 use Rattle.accuracy.specs.Claim.{FromFirstTorque, BelowFirstTorque}
 

@@ -25,7 +25,8 @@ use Rattle.std.specs.Prelude.{Ok}
 use Rattle.map.specs.Answers.{Builds}
 use Rattle.rows.proofs.Acceptance.{row_right}
 use Rattle.map.proofs.Valid.{from_data, data_rules, entry_there, is_map}
-use Rattle.cell.specs.Cell.{Point, Within, Cell, Has, entry_at}
+use Rattle.cell.specs.Cell.{Within, Cell, Has, entry_at}
+use Rattle.cell.specs.declared.Point.{Point}
 use Rattle.lookup.specs.Loss.{cell_of, loss_at, loss_answer}
 use Rattle.lookup.proofs.Axes.{RisingAxes, map_axes, cell_has}
 use Rattle.lookup.proofs.Queries.{loss_rounds, loss_answered}

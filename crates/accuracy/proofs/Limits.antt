@@ -8,7 +8,8 @@ use lib.IntN.{ℤ}
 use Rattle.arith.specs.Fraction.{Fraction, whole, signed, ◌≼◌, RoundsUp}
 use Rattle.arith.proofs.Fractions.{is_whole, is_plus_whole, at_most, at_most_of, below, below_of}
 use Rattle.loss.specs.Exact.{Cut, EntryAccurate}
-use Rattle.cell.specs.Cell.{Point, Cell, Has, Side, lower, upper, Corners, index, corners}
+use Rattle.cell.specs.Cell.{Cell, Has, Side, lower, upper, Corners, index, corners}
+use Rattle.cell.specs.declared.Point.{Point}
 use Rattle.lookup.proofs.Axes.{RisingAxes}
 use Rattle.accuracy.specs.Claim.{EntriesAccurate, exact_corner, ChosenBelow, ChosenAbove, entry_sum, FromFirstTorque, BelowFirstTorque, Held, figures_of}
 use Rattle.accuracy.proofs.Weights.{total, area, weight_for, weight_against, area_positive, positive_weight, negative_weight, total_for, none_against, some_against, most_against, none_against_at}

@@ -6,7 +6,8 @@ use native.Mathlib.Omega.{arith}
 use native.Mathlib.Nat.{mul-pos}
 use Rattle.arith.specs.Fraction.{Fraction, whole, ◌⊗◌}
 use Rattle.arith.proofs.Fractions.{Is, is_itself, is_whole, is_also, is_expanded, is_sum, is_product}
-use Rattle.cell.specs.Cell.{Point, Cell, Has, Side, lower, upper, Corners, weight, sum, corners}
+use Rattle.cell.specs.Cell.{Cell, Has, Side, lower, upper, Corners, weight, sum, corners}
+use Rattle.cell.specs.declared.Point.{Point}
 use Rattle.lookup.proofs.Axes.{RisingAxes}
 use Rattle.accuracy.specs.Claim.{entry_sum}
 use Rattle.accuracy.proofs.Weights.{total, area, weight_for, weight_against, area_positive, weight_is}

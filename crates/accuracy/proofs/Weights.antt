@@ -10,7 +10,8 @@ use lib.ListN.{get_or}
 use lib.IntN.{negsuc}
 use Rattle.arith.specs.Fraction.{◌less◌over◌, whole, signed, ◌⊕◌, ◌⊗◌, ◌≼◌, ◌≺◌, Same}
 use Rattle.arith.proofs.Fractions.{Is, is_whole, is_signed_negsuc, is_also, is_sum, is_product, at_most, below}
-use Rattle.cell.specs.Cell.{Point, Cell, Has, Side, lower, upper, Corners, share, weight}
+use Rattle.cell.specs.Cell.{Cell, Has, Side, lower, upper, Corners, share, weight}
+use Rattle.cell.specs.declared.Point.{Point}
 use Rattle.lookup.proofs.Axes.{RisingAxes}
 use Rattle.lookup.proofs.Weights.{for, against, is_share}
 use Rattle.accuracy.specs.Claim.{FromFirstTorque, BelowFirstTorque}

@@ -3,7 +3,8 @@
 use Rattle.std.specs.Prelude.{ℕ, ◌+◌, ◌*◌, ◌≤◌, ◌<◌, List, ◌⊎◌, length, get_or, ℤ}
 use Rattle.arith.specs.Fraction.{Fraction, whole, signed, ◌⊕◌, ◌≼◌, ◌≺◌, RoundsUp}
 use Rattle.loss.specs.Exact.{Cut, EntryAccurate}
-use Rattle.cell.specs.Cell.{Point, Cell, Side, Corners, weight, sum, index, corners}
+use Rattle.cell.specs.Cell.{Cell, Side, Corners, weight, sum, index, corners}
+use Rattle.cell.specs.declared.Point.{Point}
 
 -- ---- an entry
 

@@ -6,7 +6,8 @@ use Rattle.loss.specs.Rounding.{under_zero}
 use Rattle.loss.specs.Standard.{line_of, standard_loss}
 use Rattle.loss.specs.Measured.{loss_is_under_zero, temperature_on_sensitivity, temperature_on_zero, calibration, parasitic_loads, SensorReading, output, readings}
 use Rattle.map.specs.Build.{points, point_index, point_start, point_row}
-use Rattle.cell.specs.Cell.{Point, Cell, Has}
+use Rattle.cell.specs.Cell.{Cell, Has}
+use Rattle.cell.specs.declared.Point.{Point}
 
 -- no part of a sensor's uncertainty is over 0
 pub record PartsDefined (sensor : Sensor) : Type 0 where

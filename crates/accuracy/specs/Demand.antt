@@ -8,7 +8,8 @@ use Rattle.layout.specs.Rules.{AreBytes}
 use Rattle.loss.specs.Exact.{Cut, IsNumber, Near, EntryAccurate, cut, exact_standard, exact_measured}
 use Rattle.map.specs.Build.{point_row}
 use Rattle.map.specs.Answers.{Builds}
-use Rattle.cell.specs.Cell.{Point, Within, Cell, Has, entry_at}
+use Rattle.cell.specs.Cell.{Within, Cell, Has, entry_at}
+use Rattle.cell.specs.declared.Point.{Point}
 use Rattle.lookup.specs.Loss.{loss_answer}
 use Rattle.accuracy.specs.Claim.{OneStretch, Figures, Held}
 

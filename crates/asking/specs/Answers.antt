@@ -4,7 +4,7 @@ use Rattle.refusal.specs.Outcome.{refuse}
 use Rattle.refusal.specs.Table.{outcome_of}
 use Rattle.refusal.specs.declared.Refusal.{Refusal}
 use Rattle.map.specs.Answers.{Builds}
-use Rattle.cell.specs.Cell.{Point}
+use Rattle.cell.specs.declared.Point.{Point}
 use Rattle.lookup.specs.Loss.{loss_answer}
 use Rattle.accuracy.specs.Demand.{Accurate}
 use Rattle.asking.specs.declared.Asked.{Asked}

@@ -3,6 +3,7 @@
 
 ghost use Rattle.asking.specs.Answers.{Asks};
 
+use cell::Point;
 use grid::Grid;
 use refusal::Refusal;
 
@@ -13,13 +14,13 @@ pub struct Asked {
     pub loss: Result<i64, Refusal>,
 }
 
-// Builds the map of component data in the lent entries, then asks it for the loss at a point, speed in tenths of rpm and torque in hundredths of Nm.
-pub fn ask(data: &[u8], entries: &mut [u32], speed: u32, torque: u32) -> Asked
-    ensures { Asks «data».now entries.old entries.new (record { speed = speed; torque = torque }) result }
+// Builds the map of component data in the lent entries, then asks it for the loss at a point.
+pub fn ask(data: &[u8], entries: &mut [u32], point: Point) -> Asked
+    ensures { Asks «data».now entries.old entries.new point result }
 {
     let built = map::build(data, entries);
     let loss = match &built {
-        Ok(grid) => lookup::loss(grid, entries, speed, torque),
+        Ok(grid) => lookup::loss(grid, entries, point),
         Err(_) => Err(Refusal::NotAMap),
     };
     Asked { built, loss }

@@ -14,6 +14,7 @@ ghost use Rattle.writer.specs.Written.{written, file_after};
 ghost use Rattle.axle.specs.Interface.{status_of, loss_of, nearest_of, length_of, numbers_in};
 ghost use Rattle.axle.specs.Build.{BuildsForC};
 
+use cell::Point;
 use grid::{Axis, Grid};
 use lookup::GridPoint;
 use numbers::Numbers;
@@ -186,7 +187,7 @@ pub fn axle_build(data: &[u8], entries: &mut [u32]) -> AxleBuilt
 {
     let built = map::build(data, entries);
     let status = status_of(&built);
-    let Grid { speeds, torques } = built.unwrap_or(grid::empty_grid());
+    let Grid { speeds, torques } = built.unwrap_or_default();
     let speed_numbers = speeds.numbers;
     let torque_numbers = torques.numbers;
     AxleBuilt {
@@ -215,7 +216,7 @@ pub fn axle_loss(
         entries.now (record { speed = speed; torque = torque })) }
 {
     let grid = grid_of(speeds, speed_count, torques, torque_count);
-    lookup::loss(&grid, entries, speed, torque).into()
+    lookup::loss(&grid, entries, Point { speed, torque }).into()
 }
 
 // The nearest grid point, speed in tenths of rpm and torque in hundredths of Nm.
@@ -232,7 +233,7 @@ pub fn axle_nearest(
         (nearest_answer (grid_of speeds.now speed_count torques.now torque_count) (record { speed = speed; torque = torque })) }
 {
     let grid = grid_of(speeds, speed_count, torques, torque_count);
-    lookup::nearest(&grid, speed, torque).into()
+    lookup::nearest(&grid, Point { speed, torque }).into()
 }
 
 // Writes the listing of a map from the start of the lent text.

@@ -1,11 +1,8 @@
 -- Document 01, "Loss at a point and nearest point" and "Accuracy over whole numbers": the cells that have a point, and the weights of their corners.
 use Rattle.std.specs.Prelude.{ℕ, ◌+◌, ◌-◌, ◌*◌, ◌≤◌, ◌<◌, ◌≡◌, List, ◌⊎◌, length, get_or}
 use Rattle.arith.specs.Fraction.{Fraction, ◌less◌over◌, ◌⊕◌, ◌⊗◌}
-
 -- a query's point: speed in tenths of rpm, torque in hundredths of Nm
-pub record Point : Type 0 where
-  pub speed : ℕ
-  pub torque : ℕ
+use Rattle.cell.specs.declared.Point.{Point}
 
 -- the point is within the limits of a map with these speeds in rpm and torques in Nm
 pub record Within (speeds torques : List ℕ) (p : Point) : Type 0 where

@@ -1,7 +1,8 @@
 -- The loss in a cell over one denominator, as the code reckons it. That it is the weighted sum of `Loss` is a law of this crate.
 use Rattle.std.specs.Prelude.{ℕ, ◌+◌, ◌-◌, ◌*◌, ◌≤◌, ◌<◌, List, length, get_or}
 use Rattle.arith.specs.Fraction.{Fraction, ◌less◌over◌}
-use Rattle.cell.specs.Cell.{Point, Cell, entry_at}
+use Rattle.cell.specs.Cell.{Cell, entry_at}
+use Rattle.cell.specs.declared.Point.{Point}
 use Rattle.cell.specs.declared.CellNumbers.{CellNumbers}
 
 -- a cell's numbers, from the numbers of both axes and the entries

@@ -8,6 +8,13 @@ ghost use Rattle.cell.specs.Interpolation.{cell_numbers, interpolation, CellTher
 
 use grid::Grid;
 
+// A query's point: speed in tenths of rpm and torque in hundredths of Nm.
+#[derive(Clone, Copy)]
+pub struct Point {
+    pub speed: u32,
+    pub torque: u32,
+}
+
 // A cell: its speeds x in tenths of rpm, its torques y in hundredths of Nm, and the entries e at its corners, by speed and then by torque.
 #[derive(Clone, Copy)]
 pub struct CellNumbers {
@@ -21,7 +28,8 @@ pub struct CellNumbers {
     pub e11: u64,
 }
 
-// The cell whose lower speed is number i and whose lower torque is number j.
+// The cell whose lower speed is number i and whose lower torque is number j. It takes any axes and entries; a map that
+// was tested would ask more of a caller.
 #[tactic(auto, unfolding(crate::specs::Interpolation::cell_numbers))]
 pub fn cell_numbers(grid: &Grid, entries: &[u32], i: usize, j: usize) -> CellNumbers
     requires { CellThere grid.now.torques.count entries.now (record { speed = i; torque = j }) }
@@ -47,10 +55,12 @@ pub fn cell_numbers(grid: &Grid, entries: &[u32], i: usize, j: usize) -> CellNum
 
 // The loss in a cell, rounded up at the end alone. What counts for the loss and, below the first torque, what counts against it are kept apart.
 #[tactic(auto, unfolding(crate::specs::Interpolation::interpolation))]
-pub fn interpolate(cell: CellNumbers, speed: u64, torque: u64) -> i64
-    requires { CellBounds cell (record { speed = speed; torque = torque }) }
-    ensures { result ≡ ceiling (interpolation cell (record { speed = speed; torque = torque })) }
+pub fn interpolate(cell: CellNumbers, point: Point) -> i64
+    requires { CellBounds cell point }
+    ensures { result ≡ ceiling (interpolation cell point) }
 {
+    let speed = u64::from(point.speed);
+    let torque = u64::from(point.torque);
     let a0 = cell.x1.saturating_sub(speed);
     let a1 = speed.saturating_sub(cell.x0);
     let b0 = cell.y1.saturating_sub(torque);

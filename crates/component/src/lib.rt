@@ -151,7 +151,7 @@ fn read_axes(data: &[u8], start: Cursor) -> Result<Run<Grid>, Refusal>
         speeds: speeds.value,
         torques: torques.value,
     };
-    if !grid::first_step_holds(grid.torques.numbers[0], grid.torques.numbers[1]) {
+    if !grid.torques.first_step_holds() {
         return Err(Refusal::FirstTorqueAboveStep(torques.start));
     }
     Ok(Run {

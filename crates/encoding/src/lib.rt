@@ -120,13 +120,11 @@ pub fn encode(numbers: &Numbers, rows: &[u32], file: &mut Writer)
     requires room { HasRoom longest file.old }
     ensures { Appends (layout (says numbers.now rows.now)) file.old file.new }
 {
-    let speeds = &numbers.grid.speeds;
-    let torques = &numbers.grid.torques;
     // the two casts fit, for the numbers have passed their tests
     write_field(1, &[numbers.kind as u8], file);
     write_field(2, &[numbers.line as u8], file);
     write_field(3, &[numbers.ratio], file);
-    write_field(4, &speeds.numbers[..speeds.count], file);
-    write_field(5, &torques.numbers[..torques.count], file);
+    write_field(4, numbers.grid.speeds.counted_numbers(), file);
+    write_field(5, numbers.grid.torques.counted_numbers(), file);
     write_measured(numbers, rows, file);
 }

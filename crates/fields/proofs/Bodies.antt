@@ -47,7 +47,7 @@ module _ (body before numbers : List ℕ) (place : ℕ) (range : Range) (filled 
         omega (arith, f.place, f.below, length_pairs body)
 
 -- the first two numbers of an axis are those of the list that they were written to
-pub first_step_lem : (ns : List ℕ) (count : ℕ) (b : Bool) → 2 ≤ count → leb (get_or ns 0 0) (get_or ns 1 0 - get_or ns 0 0) ≡ b → first_step (take count ns) ≡ b
+pub first_step_lem : (ns : List ℕ) (count : ℕ) (b : Bool) → 2 ≤ count → first_step ns ≡ b → first_step (take count ns) ≡ b
 unfolding first_step
 first_step_lem ns count b h e =
     let h0 : 0 < count = omega arith in

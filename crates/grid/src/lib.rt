@@ -1,12 +1,12 @@
 // The two axes of a map, their rules, and what makes a map.
 #![tactic(auto)]
 
-ghost use Rattle.std.specs.Prelude.{◌≡◌, ◌&&◌, ◌-◌, ◌<◌, ◌≤◌, leb, length, get_or};
+ghost use Rattle.std.specs.Prelude.{◌≡◌, ◌&&◌, ◌<◌, ◌≤◌, length, get_or};
 ghost use Rattle.grid.specs.Every.{every};
-ghost use Rattle.grid.specs.Axis.{within, rises, axis_numbers, valid_numbers};
+ghost use Rattle.grid.specs.Axis.{within, rises, axis_numbers, first_step, valid_numbers};
 ghost use Rattle.grid.specs.Counted.{Counted};
 ghost use Rattle.grid.specs.Fault.{fault_of};
-ghost use Rattle.grid.specs.Map.{valid_speeds, valid_torques, valid_grid};
+ghost use Rattle.grid.specs.Map.{counted_numbers, valid_speeds, valid_torques, valid_grid};
 
 // The numbers that a place of the data may hold, both ends among them.
 #[derive(Clone, Copy)]
@@ -37,6 +37,9 @@ pub const TORQUE_RANGE: Range = Range {
     highest: 50_000,
 };
 
+// The largest entry of a map, in hundredths of Nm.
+pub const LARGEST_ENTRY: u32 = 10_000_000;
+
 // An axis: its numbers, and how many there are. What stands past the count means nothing.
 #[derive(Clone, Copy)]
 pub struct Axis<const N: usize> {
@@ -49,29 +52,31 @@ pub type SpeedAxis = Axis<32>;
 pub type TorqueAxis = Axis<64>;
 
 // The axes of a map: speeds in rpm and torques in Nm, both at the wheel.
-#[derive(Clone, Copy)]
+#[derive(Clone, Copy, Default)]
 pub struct Grid {
     pub speeds: SpeedAxis,
     pub torques: TorqueAxis,
 }
 
 // An axis with no numbers.
-fn empty_axis<const N: usize>() -> Axis<N>
-    ensures { result.count ≡ 0 }
-{
-    Axis {
-        numbers: [0; N],
-        count: 0,
+impl<const N: usize> Default for Axis<N> {
+    ghost is_default = { λ axis. axis.count ≡ 0 };
+
+    fn default() -> Axis<N> {
+        Axis {
+            numbers: [0; N],
+            count: 0,
+        }
     }
 }
 
-// Axes with no numbers.
-pub fn empty_grid() -> Grid
-    ensures { (result.speeds.count ≡ 0) × (result.torques.count ≡ 0) }
-{
-    Grid {
-        speeds: empty_axis(),
-        torques: empty_axis(),
+impl<const N: usize> Axis<N> {
+    // Its numbers, as far as they are counted; all of them where the count is more than its places.
+    pub fn counted_numbers(&self) -> &[u16]
+        ensures numbers { result.now ≡ counted_numbers self.now }
+        ensures long { self.now.count ≤ N → length result.now ≡ self.now.count }
+    {
+        &self.numbers[..self.count.min(N)]
     }
 }
 
@@ -108,11 +113,15 @@ pub fn check_axis(numbers: &[u16], range: Range) -> Result<(), AxisFault>
     Ok(())
 }
 
-// Whether the first torque is not above the step from it to the second.
-pub fn first_step_holds(first: u16, second: u16) -> bool
-    ensures { result ≡ leb first (second - first) }
-{
-    first <= second.saturating_sub(first)
+impl TorqueAxis {
+    // Whether the first torque is not above the step from it to the second.
+    #[tactic(auto, unfolding(crate::specs::Axis::first_step))]
+    pub fn first_step_holds(&self) -> bool
+        ensures { result ≡ first_step self.now.numbers }
+    {
+        let [first, second, ..] = self.numbers;
+        first <= second.saturating_sub(first)
+    }
 }
 
 // Whether number i, which has one before it, is in its range and above that one.
@@ -143,7 +152,7 @@ pub fn counted<const N: usize>(axis: &Axis<N>) -> Option<&[u16]>
     if axis.count < 2 || N < axis.count {
         return None;
     }
-    Some(&axis.numbers[..axis.count])
+    Some(axis.counted_numbers())
 }
 
 // Whether an axis has two numbers or more, no more than it has places, each in its range and above the one before.
@@ -167,7 +176,7 @@ pub fn speeds_valid(axis: &SpeedAxis) -> bool
 pub fn torques_valid(axis: &TorqueAxis) -> bool
     ensures { result ≡ valid_torques axis.now.numbers axis.now.count }
 {
-    axis_valid(axis, TORQUE_RANGE) && first_step_holds(axis.numbers[0], axis.numbers[1])
+    axis_valid(axis, TORQUE_RANGE) && axis.first_step_holds()
 }
 
 // Whether both axes of a grid keep their rules.

@@ -1,13 +1,21 @@
 // Whether what a caller lends as a map is one (22): axes that keep their rules, and an entry for each point, none above the largest.
 #![tactic(auto)]
 
-ghost use Rattle.std.specs.Prelude.{◌≡◌, ◌≤◌, ◌↔◌, IsTrue, EachIndex, slice_index};
-ghost use Rattle.grid.specs.Map.{valid_entries, valid_map};
+ghost use Rattle.std.specs.Prelude.{◌≡◌, true, ◌≤◌, ◌↔◌, IsTrue, length, EachIndex, slice_index, IfOk};
+ghost use Rattle.refusal.specs.Outcome.{require};
+ghost use Rattle.refusal.specs.Table.{outcome_as};
+ghost use Rattle.grid.specs.Map.{counted_numbers, valid_entries, valid_map};
 
-use grid::Grid;
+use grid::{Grid, LARGEST_ENTRY};
+use refusal::Refusal;
 
-// No entry is "above 10,000,000 hundredths" of Nm.
-const LARGEST_ENTRY: u32 = 10_000_000;
+// A map that a caller lends, and that was tested.
+#[derive(Clone, Copy)]
+pub struct Map<'a> {
+    pub grid: &'a Grid,
+    pub entries: &'a [u32],
+    pub ghost tested: { valid_map grid.now entries.now ≡ true },
+}
 
 // The entries joined by `|`: at least each of them.
 // Both halves are joined at once, which is quicker; the middle one of an odd count stands in both.
@@ -51,4 +59,35 @@ pub fn map_valid(grid: &Grid, entries: &[u32]) -> bool
     ensures { result ≡ valid_map grid.now entries.now }
 {
     grid::grid_valid(grid) && entries_valid(entries, grid.speeds.count * grid.torques.count)
+}
+
+#[tactic(auto, using(grid::proofs::Map::map_facts))]
+impl Map<'_> {
+    // Its speeds in rpm.
+    pub fn speeds(&self) -> &[u16]
+        ensures numbers { result.now ≡ counted_numbers self.now.grid.now.speeds }
+        ensures long { length result.now ≡ self.now.grid.now.speeds.count }
+    {
+        self.grid.speeds.counted_numbers()
+    }
+
+    // Its torques in Nm.
+    pub fn torques(&self) -> &[u16]
+        ensures numbers { result.now ≡ counted_numbers self.now.grid.now.torques }
+        ensures long { length result.now ≡ self.now.grid.now.torques.count }
+    {
+        self.grid.torques.counted_numbers()
+    }
+}
+
+// The map that is lent, or 22.
+pub fn tested_map<'a>(grid: &'a Grid, entries: &'a [u32]) -> Result<Map<'a>, Refusal>
+    ensures answer { outcome_as (λ map. tt) result ≡ require (valid_map grid.now entries.now) 22 0 }
+    ensures same { IfOk result (λ map. (map.grid.now ≡ grid.now) × (map.entries.now ≡ entries.now)) }
+{
+    if map_valid(grid, entries) {
+        Ok(Map { grid, entries })
+    } else {
+        Err(Refusal::NotAMap)
+    }
 }

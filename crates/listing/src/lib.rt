@@ -9,6 +9,7 @@ ghost use Rattle.listing.specs.Listing.{header as first_line, line, row, rows, r
 
 use buffer::Writer;
 use grid::Grid;
+use lent::Map;
 use refusal::Refusal;
 
 // The first line of a listing, without its line feed.
@@ -68,38 +69,32 @@ fn write_row(speed: u16, torques: &[u16], losses: &[u32], text: &mut Writer)
 }
 
 // How many bytes the listing of a map takes.
-fn listing_length(grid: &Grid, entries: &[u32]) -> usize
-    requires counts { (grid.now.speeds.count ≤ 32) × (grid.now.torques.count ≤ 64) }
-    requires enough { grid.now.speeds.count * grid.now.torques.count ≤ length entries.now }
-    ensures { result ≡ length (listing grid.now entries.now) }
+fn listing_length(map: &Map) -> usize
+    ensures { result ≡ length (listing map.now.grid.now map.now.entries.now) }
 {
-    let speeds = &grid.speeds.numbers[..grid.speeds.count];
-    let torques = &grid.torques.numbers[..grid.torques.count];
+    let torques = map.torques();
     let mut total = 18;
-    for (i, speed) in speeds.iter().enumerate() {
+    for (i, speed) in map.speeds().iter().enumerate() {
         let first = i * torques.len();
-        total += row_length(*speed, torques, &entries[first..first + torques.len()]);
+        total += row_length(*speed, torques, &map.entries[first..first + torques.len()]);
     }
     total
 }
 
 // Writes the listing of a map.
-fn write_listing(grid: &Grid, entries: &[u32], text: &mut Writer)
-    requires counts { (grid.now.speeds.count ≤ 32) × (grid.now.torques.count ≤ 64) }
-    requires enough { grid.now.speeds.count * grid.now.torques.count ≤ length entries.now }
-    requires room { HasRoom (length (listing grid.now entries.now)) text.old }
-    ensures { Appends (listing grid.now entries.now) text.old text.new }
+fn write_listing(map: &Map, text: &mut Writer)
+    requires { HasRoom (length (listing map.now.grid.now map.now.entries.now)) text.old }
+    ensures { Appends (listing map.now.grid.now map.now.entries.now) text.old text.new }
 {
-    let speeds = &grid.speeds.numbers[..grid.speeds.count];
-    let torques = &grid.torques.numbers[..grid.torques.count];
+    let torques = map.torques();
     text.bytes(&header());
     text.bytes(b"\n");
-    for (i, speed) in speeds.iter().enumerate() {
+    for (i, speed) in map.speeds().iter().enumerate() {
         let first = i * torques.len();
         write_row(
             *speed,
             torques,
-            &entries[first..first + torques.len()],
+            &map.entries[first..first + torques.len()],
             text,
         );
     }
@@ -110,15 +105,13 @@ pub fn write(grid: &Grid, entries: &[u32], text: &mut [u8]) -> Result<usize, Ref
     ensures answer { outcome_of result ≡ listed grid.now entries.now (length text.old) }
     ensures text_after { text.new ≡ content_of (outcome_of result) (listing grid.now entries.now) text.old }
 {
-    if !lent::map_valid(grid, entries) {
-        return Err(Refusal::NotAMap);
-    }
-    let needed = listing_length(grid, entries);
+    let map = lent::tested_map(grid, entries)?;
+    let needed = listing_length(&map);
     if text.len() < needed {
         return Err(Refusal::TooShort(needed));
     }
     let mut lines = Writer { text, at: 0 };
-    write_listing(grid, entries, &mut lines);
+    write_listing(&map, &mut lines);
     Ok(lines.at)
 }
 

@@ -10,7 +10,8 @@ use Rattle.grid.specs.declared.Grid.{Grid}
 use Rattle.grid.specs.declared.Range.{Range}
 use Rattle.grid.specs.Rules.{AxisRules}
 use Rattle.grid.proofs.Map.{grid_facts, grid_of_lem, map_facts}
-use Rattle.cell.specs.Cell.{Point, Within, Has}
+use Rattle.cell.specs.Cell.{Within, Has}
+use Rattle.cell.specs.declared.Point.{Point}
 use Rattle.lookup.specs.Loss.{neighbour, cell_of}
 use Rattle.lookup.proofs.Search.{IsLast, last_found, last_unique}
 

@@ -6,7 +6,8 @@ use Rattle.grid.specs.Map.{counted_numbers, valid_map}
 use Rattle.grid.specs.Rules.{MapRules}
 use Rattle.grid.specs.declared.Grid.{Grid}
 use Rattle.grid.proofs.Map.{map_facts}
-use Rattle.cell.specs.Cell.{Point, Within, Cell, Has}
+use Rattle.cell.specs.Cell.{Within, Cell, Has}
+use Rattle.cell.specs.declared.Point.{Point}
 use Rattle.cell.specs.Rounding.{ceiling}
 use Rattle.cell.specs.Interpolation.{cell_numbers, interpolation, CellThere, CellBounds}
 use Rattle.lookup.specs.Loss.{cell_of, loss_at}

@@ -13,7 +13,7 @@ use Rattle.grid.specs.Map.{valid_grid, valid_map}
 use Rattle.grid.specs.declared.Grid.{Grid}
 use Rattle.grid.proofs.Every.{and_fst, and_snd, and_not}
 use Rattle.grid.proofs.Map.{grid_facts, grid_of_lem, grid_not, map_facts, map_of_lem, map_not}
-use Rattle.cell.specs.Cell.{Point}
+use Rattle.cell.specs.declared.Point.{Point}
 use Rattle.lookup.specs.Loss.{loss_answer}
 use Rattle.lookup.specs.Nearest.{nearest_point, nearest_answer}
 use Rattle.lookup.specs.Acceptance.{lowest_speed, highest_speed, highest_torque, QueryFault, not_a_map, speed_outside, torque_above, LossDecided, NearestDecided, QueriesDecided}

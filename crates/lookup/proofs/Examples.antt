@@ -11,7 +11,8 @@ use Rattle.grid.specs.Axis.{within, rises, first_step, valid_numbers}
 use Rattle.grid.specs.Map.{valid_speeds, valid_torques, valid_grid, valid_entries, valid_map}
 use Rattle.grid.specs.Parts.{grid_of}
 use Rattle.grid.specs.declared.Grid.{Grid}
-use Rattle.cell.specs.Cell.{Point, share, weight, sum, index, corners}
+use Rattle.cell.specs.Cell.{share, weight, sum, index, corners}
+use Rattle.cell.specs.declared.Point.{Point}
 use Rattle.lookup.specs.Loss.{last_up_to, neighbour, cell_of, loss_at, loss_answer}
 use Rattle.cell.specs.Rounding.{ceiling}
 use Rattle.lookup.specs.Nearest.{GridPoint, nearest_index, nearest_number, nearest_answer}

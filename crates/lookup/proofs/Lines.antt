@@ -9,7 +9,8 @@ use native.Mathlib.Nat.{mul-pos, le_refl, mul-lt-mul_of_pos_left}
 use lib.ListN.{length, get_or}
 use Rattle.arith.specs.Fraction.{Fraction, ◌⊕◌, ◌⊗◌, Same}
 use Rattle.arith.proofs.Fractions.{Is, is_itself, is_also, is_expanded, is_sum, is_product, at_most, at_most_itself, at_most_trans}
-use Rattle.cell.specs.Cell.{Point, Cell, Has, lower, upper, sum, index, corners}
+use Rattle.cell.specs.Cell.{Cell, Has, lower, upper, sum, index, corners}
+use Rattle.cell.specs.declared.Point.{Point}
 use Rattle.lookup.proofs.Axes.{Rising, RisingAxes, rise_lt}
 use Rattle.lookup.proofs.Weights.{is_weight, wide, tall}
 

@@ -12,7 +12,7 @@ use borrow.Author.Tests.{ltb-true, ltb-false}
 use Rattle.refusal.specs.Outcome.{accepted}
 use Rattle.grid.specs.Map.{counted_numbers, valid_grid}
 use Rattle.grid.specs.declared.Grid.{Grid}
-use Rattle.cell.specs.Cell.{Point}
+use Rattle.cell.specs.declared.Point.{Point}
 use Rattle.lookup.specs.Nearest.{distance, nearest_index, nearest_number, nearest_point, GridPoint, nearest_answer}
 use Rattle.lookup.proofs.Axes.{Rising, grid_axes, rise_le}
 

@@ -16,7 +16,8 @@ use Rattle.grid.proofs.Every.{and_false, and_fst, and_snd}
 use Rattle.grid.specs.Axis.{valid_numbers}
 use Rattle.grid.specs.Map.{counted_numbers, valid_speeds, valid_grid, valid_map}
 use Rattle.grid.specs.declared.Grid.{Grid}
-use Rattle.cell.specs.Cell.{Point, Within, Cell, Has, sum, corners, entry_at}
+use Rattle.cell.specs.Cell.{Within, Cell, Has, sum, corners, entry_at}
+use Rattle.cell.specs.declared.Point.{Point}
 use Rattle.lookup.specs.Loss.{cell_of, loss_at, loss_answer}
 use Rattle.lookup.proofs.Axes.{RisingAxes, cell_has}
 use Rattle.cell.proofs.Rounding.{ceiling_rounds}

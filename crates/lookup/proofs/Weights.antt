@@ -7,7 +7,8 @@ use native.Mathlib.Nat.{mul-pos}
 use lib.ListN.{length, get_or}
 use Rattle.arith.specs.Fraction.{Fraction, whole, ◌⊗◌}
 use Rattle.arith.proofs.Fractions.{Is, is_less, is_whole, is_also, is_sum, is_product}
-use Rattle.cell.specs.Cell.{Point, Cell, Has, Side, lower, upper, share, weight, sum, index, corners, entry_at}
+use Rattle.cell.specs.Cell.{Cell, Has, Side, lower, upper, share, weight, sum, index, corners, entry_at}
+use Rattle.cell.specs.declared.Point.{Point}
 use Rattle.cell.specs.Rounding.{ceiling}
 use Rattle.cell.specs.Interpolation.{cell_numbers, interpolation}
 use Rattle.lookup.proofs.Axes.{RisingAxes}

@@ -4,7 +4,8 @@ use Rattle.refusal.specs.Outcome.{Told, refusal, accepted, refused}
 use Rattle.grid.specs.Map.{counted_numbers}
 use Rattle.grid.specs.Rules.{GridRules, MapRules}
 use Rattle.grid.specs.declared.Grid.{Grid}
-use Rattle.cell.specs.Cell.{Point, Within}
+use Rattle.cell.specs.Cell.{Within}
+use Rattle.cell.specs.declared.Point.{Point}
 use Rattle.lookup.specs.Loss.{loss_at, loss_answer}
 use Rattle.lookup.specs.Nearest.{GridPoint, nearest_point, nearest_answer}
 

@@ -4,7 +4,8 @@ use Rattle.arith.specs.Fraction.{whole}
 use Rattle.refusal.specs.Outcome.{Outcome, accepted, ◌>>=◌, require}
 use Rattle.grid.specs.Map.{counted_numbers, valid_map}
 use Rattle.grid.specs.declared.Grid.{Grid}
-use Rattle.cell.specs.Cell.{Point, Cell, sum, corners, entry_at}
+use Rattle.cell.specs.Cell.{Cell, sum, corners, entry_at}
+use Rattle.cell.specs.declared.Point.{Point}
 use Rattle.cell.specs.Rounding.{ceiling}
 
 -- the greatest index from 1 to n at which a test holds, or 0 where there is none

@@ -3,7 +3,7 @@ use Rattle.std.specs.Prelude.{ℕ, zero, suc, ◌+◌, ◌-◌, ◌*◌, cond, L
 use Rattle.refusal.specs.Outcome.{Outcome, accepted, ◌>>=◌, require}
 use Rattle.grid.specs.Map.{counted_numbers, valid_grid}
 use Rattle.grid.specs.declared.Grid.{Grid}
-use Rattle.cell.specs.Cell.{Point}
+use Rattle.cell.specs.declared.Point.{Point}
 pub use Rattle.lookup.specs.declared.GridPoint.{GridPoint}
 
 -- how far a number is from a value; one of the two differences is 0

@@ -8,7 +8,9 @@ ghost use Rattle.cell.specs.Cell.{Within};
 ghost use Rattle.lookup.specs.Loss.{neighbour, loss_at, loss_answer};
 ghost use Rattle.lookup.specs.Nearest.{distance, nearest_number, nearest_answer};
 
+use cell::Point;
 use grid::Grid;
+use lent::Map;
 use refusal::Refusal;
 
 // A point of a grid: a speed in rpm and a torque in Nm.
@@ -18,41 +20,36 @@ pub struct GridPoint {
     pub torque: u16,
 }
 
-// The loss at a point in hundredths of Nm, speed in tenths of rpm and torque in hundredths of Nm. 22 is tested first, then 20, then 21.
+// The loss at a point in hundredths of Nm. 22 is tested first, then 20, then 21.
 #[tactic(auto, using(crate::proofs::Axes::counts), unfolding(crate::specs::Loss::loss_answer))]
-pub fn loss(grid: &Grid, entries: &[u32], speed: u32, torque: u32) -> Result<i64, Refusal>
-    ensures { outcome_of result ≡ loss_answer grid.now entries.now (record { speed = speed; torque = torque }) }
+pub fn loss(grid: &Grid, entries: &[u32], point: Point) -> Result<i64, Refusal>
+    ensures { outcome_of result ≡ loss_answer grid.now entries.now point }
 {
-    if !lent::map_valid(grid, entries) {
-        return Err(Refusal::NotAMap);
-    }
-    let speeds = &grid.speeds.numbers[..grid.speeds.count];
-    let torques = &grid.torques.numbers[..grid.torques.count];
-    let speed = u64::from(speed);
-    let torque = u64::from(torque);
+    let map = lent::tested_map(grid, entries)?;
+    let speeds = map.speeds();
+    let torques = map.torques();
+    let speed = u64::from(point.speed);
     if speed < 10 * u64::from(speeds[0]) || 10 * u64::from(speeds[speeds.len() - 1]) < speed {
         return Err(Refusal::SpeedOutside);
     }
-    if 100 * u64::from(torques[torques.len() - 1]) < torque {
+    if 100 * u64::from(torques[torques.len() - 1]) < u64::from(point.torque) {
         return Err(Refusal::TorqueAbove);
     }
-    Ok(loss_within(grid, entries, speed, torque))
+    Ok(loss_within(&map, point))
 }
 
 // The loss at a point within the limits of a map.
 #[tactic(auto, using(crate::proofs::Axes::counts))]
-fn loss_within(grid: &Grid, entries: &[u32], speed: u64, torque: u64) -> i64
-    requires is_map { valid_map grid.now entries.now ≡ true }
-    requires within { Within (counted_numbers grid.now.speeds) (counted_numbers grid.now.torques)
-        (record { speed = speed; torque = torque }) }
+fn loss_within(map: &Map, point: Point) -> i64
+    requires { Within (counted_numbers map.now.grid.now.speeds) (counted_numbers map.now.grid.now.torques) point }
     ensures { result ≡
-        loss_at (counted_numbers grid.now.speeds) (counted_numbers grid.now.torques) entries.now
-        (record { speed = speed; torque = torque }) }
+        loss_at (counted_numbers map.now.grid.now.speeds) (counted_numbers map.now.grid.now.torques) map.now.entries.now
+        point }
 {
-    let i = neighbour(&grid.speeds.numbers[..grid.speeds.count], 10, speed);
-    let j = neighbour(&grid.torques.numbers[..grid.torques.count], 100, torque);
-    let cell = cell::cell_numbers(grid, entries, i, j);
-    cell::interpolate(cell, speed, torque)
+    let i = neighbour(map.speeds(), 10, u64::from(point.speed));
+    let j = neighbour(map.torques(), 100, u64::from(point.torque));
+    let cell = cell::cell_numbers(map.grid, map.entries, i, j);
+    cell::interpolate(cell, point)
 }
 
 // The index of the lower neighbour of v among numbers that count scale each: the last at or below v, but for the last of all.
@@ -77,19 +74,19 @@ fn last_at_or_below(numbers: &[u16], scale: u64, v: u64) -> Option<usize>
         .rposition(|number| scale * u64::from(*number) <= v)
 }
 
-// The nearest grid point, speed in tenths of rpm and torque in hundredths of Nm. 22 is tested for the axes; no entry is asked for.
+// The nearest grid point. 22 is tested for the axes; no entry is asked for.
 #[tactic(auto, using(crate::proofs::Axes::counts), unfolding(crate::specs::Nearest::nearest_answer))]
-pub fn nearest(grid: &Grid, speed: u32, torque: u32) -> Result<GridPoint, Refusal>
-    ensures { outcome_of result ≡ nearest_answer grid.now (record { speed = speed; torque = torque }) }
+pub fn nearest(grid: &Grid, point: Point) -> Result<GridPoint, Refusal>
+    ensures { outcome_of result ≡ nearest_answer grid.now point }
 {
     if !grid::grid_valid(grid) {
         return Err(Refusal::NotAMap);
     }
-    let speeds = &grid.speeds.numbers[..grid.speeds.count];
-    let torques = &grid.torques.numbers[..grid.torques.count];
+    let speeds = grid.speeds.counted_numbers();
+    let torques = grid.torques.counted_numbers();
     Ok(GridPoint {
-        speed: nearest_number(speeds, 10, u64::from(speed)),
-        torque: nearest_number(torques, 100, u64::from(torque)),
+        speed: nearest_number(speeds, 10, u64::from(point.speed)),
+        torque: nearest_number(torques, 100, u64::from(point.torque)),
     })
 }
 

@@ -101,7 +101,7 @@ fn build_entries(component: &Component, entries: &mut [u32]) -> Result<(), Refus
     ensures { BuildsEntries entries.old entries.new component.now result }
 {
     let speeds = component.grid.speeds.count;
-    let torques = &component.grid.torques.numbers[..component.grid.torques.count];
+    let torques = component.grid.torques.counted_numbers();
     let points = speeds * torques.len();
     if entries.len() < points {
         return Err(Refusal::TooShort(points));

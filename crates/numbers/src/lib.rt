@@ -66,7 +66,7 @@ fn axes_check(grid: &Grid) -> Result<(), Refusal>
 {
     axis_check(&grid.speeds, grid::SPEED_RANGE)?;
     axis_check(&grid.torques, grid::TORQUE_RANGE)?;
-    if !grid::first_step_holds(grid.torques.numbers[0], grid.torques.numbers[1]) {
+    if !grid.torques.first_step_holds() {
         return Err(Refusal::FirstTorqueAboveStep(0));
     }
     Ok(())

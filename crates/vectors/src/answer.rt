@@ -2,6 +2,7 @@
 use crate::case::{Case, Kind};
 use crate::print::Hexadecimal;
 use crate::{bytes, print};
+use cell::Point;
 use component::Component;
 use grid::Grid;
 use numbers::Numbers;
@@ -123,11 +124,12 @@ fn write_answer(
 ) -> Result<(), Fault> {
     let speed = bytes::next_u32(&mut question).ok_or(Fault::NoCase)?;
     let torque = bytes::next_u32(&mut question).ok_or(Fault::NoCase)?;
-    match lookup::loss(grid, entries, speed, torque) {
+    let point = Point { speed, torque };
+    match lookup::loss(grid, entries, point) {
         Ok(loss) => writeln!(out, "loss {loss}")?,
         Err(refusal) => writeln!(out, "{refusal}")?,
     }
-    match lookup::nearest(grid, speed, torque) {
+    match lookup::nearest(grid, point) {
         Ok(point) => writeln!(out, "nearest {} {}", point.speed, point.torque)?,
         Err(refusal) => writeln!(out, "{refusal}")?,
     }

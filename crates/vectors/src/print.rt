@@ -32,7 +32,7 @@ impl fmt::Display for Hexadecimal<'_> {
 }
 
 fn write_axis<const N: usize>(out: &mut impl Write, name: &str, axis: &Axis<N>) -> io::Result<()> {
-    write!(out, " {name}{}", Spaced(&axis.numbers[..axis.count.min(N)]))
+    write!(out, " {name}{}", Spaced(axis.counted_numbers()))
 }
 
 fn write_sensor(out: &mut impl Write, name: &str, sensor: Sensor) -> io::Result<()> {

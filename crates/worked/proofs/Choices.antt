@@ -16,7 +16,8 @@ use Rattle.loss.specs.Standard.{line_of, standard_loss, standard_entry}
 use Rattle.loss.specs.Exact.{Cut, cut, exact_standard}
 use Rattle.loss.proofs.Cuts.{square_not_negative}
 use Rattle.loss.proofs.Accuracy.{standard_at_or_below, standard_at_or_above, standard_entry_accurate}
-use Rattle.cell.specs.Cell.{Point, Cell, Has, Side, lower, upper, Corners, share, weight, sum, index, corners}
+use Rattle.cell.specs.Cell.{Cell, Has, Side, lower, upper, Corners, share, weight, sum, index, corners}
+use Rattle.cell.specs.declared.Point.{Point}
 use Rattle.lookup.proofs.Axes.{Rising, RisingAxes}
 use Rattle.accuracy.specs.Claim.{EntriesAccurate, exact_corner, ChosenBelow, ChosenAbove, entry_sum, Held, figures_of}
 use Rattle.accuracy.proofs.Limits.{limits}

@@ -10,7 +10,7 @@ use Rattle.rows.specs.Rows.{row_check}
 use Rattle.map.specs.Build.{LossMap, build}
 use Rattle.buffer.specs.Bytes.{bytes}
 use Rattle.report.specs.Report.{report}
-use Rattle.cell.specs.Cell.{Point}
+use Rattle.cell.specs.declared.Point.{Point}
 use Rattle.lookup.specs.Loss.{loss_answer}
 use Rattle.lookup.specs.declared.GridPoint.{GridPoint}
 use Rattle.lookup.specs.Nearest.{nearest_answer}

@@ -1,5 +1,4 @@
 -- `encoding::encode` meets its contract. Assumes nothing.
-use Rattle.std.proofs.Common.{rules}
 use Rattle.grid.specs.Map.{counted_numbers}
 use Rattle.layout.specs.Layout.{two_bytes, layout}
 use Rattle.numbers.proofs.Kept.{sizes, kind_said}
@@ -13,5 +12,7 @@ returns c =
     let g = c.args.numbers.now in
     let rows = c.args.rows.now in
     let kind = kind_said g rows (sizes g rows c.requires.passed).kind in
+    let speeds = rw c.counted_numbers.ensures.numbers at c.write_field-4.ensures in
+    let torques = rw c.counted_numbers-2.ensures.numbers at c.write_field-5.ensures in
     rw (kind, ← flat_map_encoded two_bytes (counted_numbers g.grid.speeds), ← flat_map_encoded two_bytes (counted_numbers g.grid.torques))
-    (search (rules, appends_then) depth 7)
+    (appends_then c.write_field.ensures (appends_then c.write_field-2.ensures (appends_then c.write_field-3.ensures (appends_then speeds (appends_then torques c.write_measured.ensures)))))

@@ -6,6 +6,6 @@ use Rattle.listing.proofs.listing_length.Given as goal
 
 abbrev pub invariant-loop-i : goal.invariant-loop-i
 invariant-loop-i l =
-    (length l.torques ≡ l.grid.torques.count)
-    × (l.total ≤ 18 + 4224 * l.i)
-    × (l.total ≡ 18 + length (joined (row_of_speed l.grid.speeds.numbers l.grid.torques.numbers l.grid.torques.count l.entries) l.i))
+    let grid = l.map.grid.now in
+    (l.total ≤ 18 + 4224 * l.i)
+    × (l.total ≡ 18 + length (joined (row_of_speed grid.speeds.numbers grid.torques.numbers grid.torques.count l.map.entries.now) l.i))

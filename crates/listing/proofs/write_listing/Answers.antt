@@ -9,19 +9,21 @@ use Rattle.listing.proofs.write_listing.Goals as goal
 pub write_row-requires-clause-room : goal.write_row-requires-clause-room
 unfolding rows
 write_row-requires-clause-room c =
-    let grid = c.args.grid.now in
-    let l : c.loop-i.i < grid.speeds.count = omega arith in
-    rw (row_of_parts _ _ _ _ _ _ l c.loop-i.invariant.0)
-    (room_next _ _ c.loop-i.invariant.1 grid.speeds.count l (omega (arith, length_listing grid c.args.entries.now, c.requires.room)))
+    let map = c.args.map.now in
+    let l : c.loop-i.i < map.grid.now.speeds.count = omega arith in
+    let long = rw c.torques-torques.ensures.numbers at c.torques-torques.ensures.long in
+    rw (c.speeds-speed-items.ensures.numbers, c.torques-torques.ensures.numbers, row_of_parts _ _ _ _ _ _ l long)
+    (room_next _ _ c.loop-i.invariant map.grid.now.speeds.count l (omega (arith, length_listing map.grid.now map.entries.now, c.requires)))
 
 pub loop-i-preserved : goal.loop-i-preserved
 loop-i-preserved c =
-    let l : c.loop-i.i < c.args.grid.now.speeds.count = omega arith in
-    (c.loop-i.invariant.0, appends_next _ _ c.loop-i.invariant.1 (rw (row_of_parts _ _ _ _ _ _ l c.loop-i.invariant.0) at c.write_row.ensures))
+    let l : c.loop-i.i < c.args.map.now.grid.now.speeds.count = omega arith in
+    let long = rw c.torques-torques.ensures.numbers at c.torques-torques.ensures.long in
+    appends_next _ _ c.loop-i.invariant (rw (c.speeds-speed-items.ensures.numbers, c.torques-torques.ensures.numbers, row_of_parts _ _ _ _ _ _ l long) at c.write_row.ensures)
 
 pub returns : goal.returns
 unfolding header listing rows
 returns c =
-    let done : c.loop-i.i ≡ c.args.grid.now.speeds.count = omega arith in
+    let done : c.loop-i.i ≡ c.args.map.now.grid.now.speeds.count = omega arith in
     let first = appends_then (rw c.header.ensures at c.bytes.ensures) c.bytes-2.ensures in
-    rw (← done) (appends_then first c.loop-i.invariant.1)
+    rw (← done) (appends_then first c.loop-i.invariant)

@@ -7,5 +7,5 @@ use Rattle.listing.proofs.write_listing.Given as goal
 
 abbrev pub invariant-loop-i : goal.invariant-loop-i
 invariant-loop-i l =
-    (length l.torques ≡ l.grid.torques.count)
-    × Appends (joined (row_of_speed l.grid.speeds.numbers l.grid.torques.numbers l.grid.torques.count l.entries) l.i) l.initial.text l.text
+    let grid = l.map.grid.now in
+    Appends (joined (row_of_speed grid.speeds.numbers grid.torques.numbers grid.torques.count l.map.entries.now) l.i) l.initial.text l.text
