@@ -1,6 +1,6 @@
 -- What the build's answer is for C, and demand 3 of what it leaves there. Assumes nothing.
 use Rattle.std.proofs.Common.{ℕ, ◌≡◌, ap, List, arith, Result, Ok, Err}
-use Rattle.std.specs.Result.{result_unwrap_or}
+use Rattle.std.specs.Result.{ResultUnwrapsOrElse}
 use Rattle.refusal.proofs.Numbers.{number_between}
 use Rattle.refusal.specs.declared.Refusal.{Refusal}
 use Rattle.grid.specs.declared.Grid.{Grid}
@@ -23,9 +23,11 @@ for_c s grid = record {
   torque_count = grid.torques.count;
 }
 
-module _ (bytes before after : List ℕ) (are_bytes : AreBytes bytes) (empty : Grid) (no_speeds : empty.speeds.count ≡ 0) (no_torques : empty.torques.count ≡ 0) where
-  pub builds_for_c : (r : Result Grid Refusal) → Builds bytes before after r → BuildsForC bytes before after (for_c (status_of r) (result_unwrap_or r empty))
-  builds_for_c (Ok grid) b = record {
+-- IsDefault is what `Default` says of the axes that stand in place of a map
+module _ (bytes before after : List ℕ) (are_bytes : AreBytes bytes) (IsDefault : Grid → Type 0) (empty : (grid : Grid) → IsDefault grid → (grid.speeds.count ≡ 0) × (grid.torques.count ≡ 0)) where
+  pub builds_for_c : (r : Result Grid Refusal) (left : Grid) → ResultUnwrapsOrElse r IsDefault left → Builds bytes before after r
+      → BuildsForC bytes before after (for_c (status_of r) left)
+  builds_for_c (Ok grid) left same b = rw same (record {
     refusal = ap refusal_in b.outcome;
     place = ap place_in b.outcome;
     speeds = ap speeds_in b.outcome;
@@ -33,13 +35,15 @@ module _ (bytes before after : List ℕ) (are_bytes : AreBytes bytes) (empty : G
     counts = (b.counts.speeds, b.counts.torques);
     entries = b.written;
     accurate = λ _. demand3 bytes before after are_bytes grid b;
-  }
-  builds_for_c (Err x) b = record {
-    refusal = ap refusal_in b.outcome;
-    place = ap place_in b.outcome;
-    speeds = rw no_speeds (ap speeds_in b.outcome);
-    torques = rw no_torques (ap torques_in b.outcome);
-    counts = (omega arith, omega arith);
-    entries = b.written;
-    accurate = λ none. absurd (omega (arith, (number_between x).0, none));
-  }
+  })
+  builds_for_c (Err x) left default b =
+      let counts = empty left default in
+      record {
+        refusal = ap refusal_in b.outcome;
+        place = ap place_in b.outcome;
+        speeds = rw counts.0 (ap speeds_in b.outcome);
+        torques = rw counts.1 (ap torques_in b.outcome);
+        counts = (omega (arith, counts.0), omega (arith, counts.1));
+        entries = b.written;
+        accurate = λ none. absurd (omega (arith, (number_between x).0, none));
+      }
