@@ -75,8 +75,7 @@ fn listing_length(map: &Map) -> usize
     let torques = map.torques();
     let mut total = 18;
     for (i, speed) in map.speeds().iter().enumerate() {
-        let first = i * torques.len();
-        total += row_length(*speed, torques, &map.entries[first..first + torques.len()]);
+        total += row_length(*speed, torques, map.row(i));
     }
     total
 }
@@ -90,13 +89,7 @@ fn write_listing(map: &Map, text: &mut Writer)
     text.bytes(&header());
     text.bytes(b"\n");
     for (i, speed) in map.speeds().iter().enumerate() {
-        let first = i * torques.len();
-        write_row(
-            *speed,
-            torques,
-            &map.entries[first..first + torques.len()],
-            text,
-        );
+        write_row(*speed, torques, map.row(i), text);
     }
 }
 
