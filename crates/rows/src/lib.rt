@@ -168,7 +168,6 @@ fn fill_speed(
 ) -> Result<(), Refusal>
     requires bench { BenchRight bench.now }
     requires rows { row_start (bench_of bench.now) (length torques.now) ≤ length rows.bytes.now }
-    requires place { rows.start + length rows.bytes.now < 2 ^ 64 }
     requires entries { length torques.now ≤ length entries.old }
     ensures answer { outcome_of result ≡
         first_refusal (part_check (bench_of bench.now) torques.now rows.entry.bytes.now rows.entry.start)
@@ -196,7 +195,6 @@ pub fn fill_rows(
 ) -> Result<(), Refusal>
     requires bench { BenchRight bench.now }
     requires rows { row_start (bench_of bench.now) (speeds * length torques.now) ≤ length rows.bytes.now }
-    requires place { rows.start + length rows.bytes.now < 2 ^ 64 }
     requires entries { speeds * length torques.now ≤ length entries.old }
     ensures answer { outcome_of result ≡
         first_refusal (speed_part_check (bench_of bench.now) torques.now rows.entry.bytes.now rows.entry.start)
