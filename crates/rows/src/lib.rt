@@ -80,10 +80,10 @@ impl Bench {
             ratio: self.ratio,
             input: reading_at(&self.input, bytes, at),
             output: reading_at(&self.output, bytes, at + 4),
-            right: match &self.right {
-                Some(right) => Some(reading_at(right, bytes, at + 8)),
-                None => None,
-            },
+            right: self
+                .right
+                .as_ref()
+                .map(|right| reading_at(right, bytes, at + 8)),
         }
     }
 }
@@ -108,9 +108,8 @@ fn fill_speed(
     let length = bench.row_length();
     for (i, torque) in torques.iter().enumerate() {
         let at = length * i;
-        let entry = bench
-            .row_at(rows.bytes, at)
-            .entry(*torque, rows.start + at)?;
+        let row = bench.row_at(rows.bytes, at);
+        let entry = row.entry(*torque, rows.start + at)?;
         entries[i] = entry;
     }
     Ok(())

@@ -84,10 +84,7 @@ impl Row<'_> {
         requires right { IfSome self.now.right (λ r. r.torque ≤ 5000000) }
         ensures { result ≡ output (row_of self.now) }
     {
-        match self.right {
-            Some(right) => self.output.torque + right.torque,
-            None => self.output.torque,
-        }
+        self.output.torque + self.right.map_or(0, |right| right.torque)
     }
 
     // The loss uncertainty of a row, in grains: at most 903,000,000, so the cast fits.
