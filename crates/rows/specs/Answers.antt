@@ -40,6 +40,7 @@ pub record BenchRight (b : BenchParts) : Type 0 where
   pub output : SensorRules b.output.sensor
   pub right : IfSome b.right (λ s. SensorRules s.sensor)
 
+-- an output as it is read
 abbrev pub output_of : Reading → Output
 output_of r = record { sensor = r.sensor.now.sensor; torque = r.torque }
 

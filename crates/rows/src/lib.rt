@@ -19,7 +19,7 @@ use row::{Reading, Row};
 use sensor::Sensor;
 
 // What all rows share: the ratio and the sensors. Where there is a right output, output is the left one.
-// That its sensors are right is a clause of what reckons with them: `Bench::new` takes any, and a type that said so would ask more.
+// That its sensors are right is a clause of what makes rows with them: `Bench::new` takes any, and a type that said so would ask more.
 #[derive(Clone, Copy)]
 pub struct Bench {
     pub ratio: u16,
