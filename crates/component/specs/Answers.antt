@@ -11,7 +11,7 @@ use Rattle.component.specs.declared.Kind.TheVariants.{Standard, Measured, HalfSh
 use Rattle.component.specs.declared.Run.{Run as RunRead}
 use Rattle.component.specs.declared.Axle.{Axle}
 use Rattle.component.specs.declared.Outputs.{Outputs}
-use Rattle.component.specs.declared.Rows.{Rows}
+use Rattle.component.specs.declared.rows.Rows.{Rows}
 use Rattle.component.specs.declared.Measured.{Measured as MeasuredRead}
 use Rattle.component.specs.declared.Component.{Component}
 

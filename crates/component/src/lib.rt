@@ -6,18 +6,13 @@ ghost use Rattle.refusal.specs.Table.{outcome_as};
 ghost use Rattle.component.specs.Component.{output_tags, rows_tag, row_length, kind_number, axle_fields, axes_fields, sensor_fields, measured_fields, kind_fields};
 ghost use Rattle.component.specs.Answers.{number_of, axle_run_of, axes_run_of, CountsWithin, outputs_run_of, measured_run_of, kind_in, kind_run_of, RowsWithin, Reads};
 
+mod rows;
+
 use fields::{Allowed, Cursor, Width};
 use grid::{Grid, Range};
 use refusal::Refusal;
+pub use rows::Rows;
 use sensor::Sensor;
-
-// The rows of tag 8 or 10: the place of the first byte in the data, and their bytes. That place and length together fit 64
-// bits is a clause where it is needed: a ghost field's definition would name this type, and this type the definition.
-#[derive(Clone, Copy)]
-pub struct Rows<'a> {
-    pub start: usize,
-    pub bytes: &'a [u8],
-}
 
 // What only measured data has.
 #[derive(Clone, Copy)]

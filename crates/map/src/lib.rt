@@ -1,7 +1,7 @@
 // Builds a loss map from component data.
 #![tactic(auto)]
 
-ghost use Rattle.std.specs.Prelude.{◌≡◌, ◌+◌, ◌*◌, ◌≤◌, ◌<◌, ◌^◌, length, replicate, IfSome};
+ghost use Rattle.std.specs.Prelude.{◌≡◌, ◌+◌, ◌*◌, ◌≤◌, length, replicate};
 ghost use Rattle.refusal.specs.Outcome.{first_refusal};
 ghost use Rattle.refusal.specs.Table.{outcome_of};
 ghost use Rattle.grid.specs.Lists.{tabulate, joined, overwritten};
@@ -78,7 +78,6 @@ fn build_measured(
 ) -> Result<(), Refusal>
     requires bench { BenchRight bench.now }
     requires rows { row_start (bench_of bench.now) (speeds * length torques.now) ≤ length rows.bytes.now }
-    requires place { rows.start + length rows.bytes.now < 2 ^ 64 }
     requires points { speeds * length torques.now ≤ 2048 }
     requires entries { speeds * length torques.now ≤ length entries.old }
     ensures answer { outcome_of result ≡
@@ -97,7 +96,6 @@ fn build_measured(
 fn build_entries(component: &Component, entries: &mut [u32]) -> Result<(), Refusal>
     requires rules { Rules (component_of component.now) }
     requires counts { CountsWithin component.now.grid }
-    requires rows { IfSome component.now.measured (λ m. m.rows.start + length m.rows.bytes.now < 2 ^ 64) }
     ensures { BuildsEntries entries.old entries.new component.now result }
 {
     let speeds = component.grid.speeds.count;

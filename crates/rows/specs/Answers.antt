@@ -9,7 +9,8 @@ use Rattle.loss.specs.Measured.{Output, Row, measured_entry}
 use Rattle.loss.specs.declared.PreparedSensor.{PreparedSensor}
 use Rattle.rows.specs.Rows.{Bench, row_at, row_start, row_check}
 use Rattle.rows.specs.declared.Bench.{Bench as BenchParts}
-use Rattle.rows.specs.declared.Torques.{Torques}
+use Rattle.rows.specs.declared.row.Reading.{Reading}
+use Rattle.rows.specs.declared.row.Row.{Row as RowParts}
 
 -- the right output's sensor, if there is one
 abbrev pub right_sensor : Option PreparedSensor → List Sensor
@@ -39,18 +40,22 @@ pub record BenchRight (b : BenchParts) : Type 0 where
   pub output : SensorRules b.output.sensor
   pub right : IfSome b.right (λ s. SensorRules s.sensor)
 
--- the right output, if there is one
-abbrev pub right_output : Option PreparedSensor → (torque : ℕ) → List Output
-right_output None torque = []
-right_output (Some s) torque = record { sensor = s.sensor; torque = torque } ∷ []
+-- an output as it is read
+abbrev pub output_of : Reading → Output
+output_of r = record { sensor = r.sensor.now.sensor; torque = r.torque }
 
--- a row from its torques; where there is no right output its torque means nothing
-abbrev pub row_of : BenchParts → Torques → Row
-row_of b torques = record {
-  ratio = b.ratio;
-  sensor = b.input.sensor;
-  input = torques.input;
-  outputs = record { sensor = b.output.sensor; torque = torques.output } ∷ right_output b.right torques.right;
+-- the right output, if there is one
+abbrev pub right_output : Option Reading → List Output
+right_output None = []
+right_output (Some r) = output_of r ∷ []
+
+-- the code's row in the definitions' terms
+abbrev pub row_of : RowParts → Row
+row_of row = record {
+  ratio = row.ratio;
+  sensor = row.input.sensor.now.sensor;
+  input = row.input.torque;
+  outputs = output_of row.output ∷ right_output row.right;
 }
 
 -- a row whose first byte is at a place: its refusal or its entry

@@ -15,7 +15,7 @@ loop-i-init c = none_filled _ _ _ _
 outcome : (c : After-entry) → outcome_of c.entry.result ≡
     (part_check (bench_of c.args.bench.now) c.args.torques.now c.args.rows.bytes.now c.args.rows.start c.loop-i.i >>= λ _. accepted (part_entry (bench_of c.args.bench.now) c.args.rows.bytes.now c.loop-i.i))
 outcome c =
-    rw (c.torques_at.ensures.row, c.row_length-length.ensures, part_outcome (bench_of c.args.bench.now) c.args.torques.now c.args.rows.bytes.now c.args.rows.start c.loop-i.i) at c.entry.ensures
+    rw (c.row_at-row.ensures, c.row_length-length.ensures, part_outcome (bench_of c.args.bench.now) c.args.torques.now c.args.rows.bytes.now c.args.rows.start c.loop-i.i) at c.entry.ensures
 
 pub returns-in_err-entry-clause-answer : goal.returns-in_err-entry-clause-answer
 returns-in_err-entry-clause-answer c =

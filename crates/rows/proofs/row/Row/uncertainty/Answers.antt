@@ -1,10 +1,10 @@
--- `rows::Bench::uncertainty` meets its contract: the squares fit 64 bits, and the root of their sum 32. Assumes nothing.
+-- `rows::row::Row::uncertainty` meets its contract: the squares fit 64 bits, and the root of their sum 32. Assumes nothing.
 use Rattle.std.proofs.Common.{◌≤◌, [], ◌∷◌, ◌∙◌, arith}
 use Rattle.loss.specs.Measured.{readings, reading_uncertainty, row_uncertainty}
 use Rattle.loss.proofs.Parts.{scaled_at_most, scaled_by_one}
 use Rattle.loss.proofs.Rows.{squares_fit, root_fits}
-use Rattle.rows.proofs.Bench.uncertainty.Goals as goal
-use Rattle.rows.proofs.Bench.uncertainty.Goals.{After-from-output, in-Some, in-None}
+use Rattle.rows.proofs.row.Row.uncertainty.Goals as goal
+use Rattle.rows.proofs.row.Row.uncertainty.Goals.{After-from-output, in-Some, in-None}
 
 pub returns : goal.returns
 unfolding row_uncertainty readings reading_uncertainty
@@ -14,10 +14,10 @@ returns c = elim c.match-self.branch [
 ]
 
 at_wheel_most : (c : After-from-output) → c.scaled_uncertainty-at_wheel.result ≤ 860000000
-at_wheel_most c = rw c.scaled_uncertainty-at_wheel.ensures (scaled_at_most c.requires.bench.ratio c.steps-input.ensures.bound)
+at_wheel_most c = rw c.scaled_uncertainty-at_wheel.ensures (scaled_at_most c.args.self.now.in_range c.uncertainty.ensures.bound)
 
 output_most : (c : After-from-output) → c.from-output.result ≤ 43000000
-output_most c = omega (arith, c.steps.ensures.bound)
+output_most c = omega (arith, c.uncertainty-2.ensures.bound)
 
 pub loss_uncertainty-uncertainty-requires : goal.loss_uncertainty-uncertainty-requires
 loss_uncertainty-uncertainty-requires c =
