@@ -8,11 +8,9 @@ ghost use Rattle.sensor.specs.Sensor.{SensorRules};
 ghost use Rattle.loss.specs.Measured.{sensor_steps, output, row_uncertainty};
 ghost use Rattle.rows.specs.Rows.{near_axis, outputs_check};
 
+use grid::LARGEST_ENTRY;
 use loss::PreparedSensor;
 use refusal::Refusal;
-
-// In hundredths of Nm.
-const LARGEST_ENTRY: u64 = 10_000_000;
 
 // A sensor with its torque in a row, in hundredths of Nm.
 #[derive(Clone, Copy)]
@@ -123,7 +121,7 @@ impl Row<'_> {
         }
         let uncertainty = self.uncertainty();
         let entry = loss::measured_entry(self.ratio, self.input.torque, output, uncertainty);
-        if LARGEST_ENTRY < entry {
+        if u64::from(LARGEST_ENTRY) < entry {
             return Err(Refusal::EntryTooLarge(place));
         }
         // fits: it is at most the largest entry

@@ -61,16 +61,16 @@ entry_is : (c : After-measured_entry-entry) → measured_entry (row_of c.args.se
 unfolding measured_entry
 entry_is c = rw (← c.output_torque-output.ensures, c.measured_entry-entry.ensures, c.uncertainty-uncertainty.ensures)
 
-pub returns-then-entry-gt-LARGEST_ENTRY : goal.returns-then-entry-gt-LARGEST_ENTRY
-returns-then-entry-gt-LARGEST_ENTRY c =
+pub returns-then-from-entry : goal.returns-then-from-entry
+returns-then-from-entry c =
     rw (
-      others (goal.at.returns-then-entry-gt-LARGEST_ENTRY c).In_ok-check_outputs,
+      others (goal.at.returns-then-from-entry c).In_ok-check_outputs,
       ← c.output_torque-output.ensures,
       ← c.if-not-near_axis.ensures,
       ← loss_there _ _ _ _ c.measured_loss.ensures,
       c.if-is_none.ensures,
-      entry_is (goal.at.returns-then-entry-gt-LARGEST_ENTRY c).After-measured_entry-entry,
-      lt-leb _ _ c.if-entry-gt-LARGEST_ENTRY.true,
+      entry_is (goal.at.returns-then-from-entry c).After-measured_entry-entry,
+      lt-leb _ _ (rw c.from.ensures at c.if-from-entry.true),
     )
 
 pub returns : goal.returns
@@ -82,5 +82,5 @@ returns c =
       ← loss_there _ _ _ _ c.measured_loss.ensures,
       c.if-is_none.ensures,
       entry_is (goal.at.returns c).After-measured_entry-entry,
-      le-leb _ _ c.if-entry-gt-LARGEST_ENTRY.false,
+      le-leb _ _ (rw c.from.ensures at c.if-from-entry.false),
     )
