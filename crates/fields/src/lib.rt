@@ -8,7 +8,7 @@ ghost use Rattle.fields.specs.Field.{head, field, exactly, numbers as numbers_fr
 ghost use Rattle.fields.specs.Sensor.{sensor};
 ghost use Rattle.fields.specs.Answers.{allowed_of, head_of, number_bytes, field_of, axis_field_of};
 
-use grid::{Axis, AxisFault, Range};
+use grid::{Axis, Range};
 use refusal::Refusal;
 use sensor::Sensor;
 
@@ -129,10 +129,7 @@ fn read_numbers(body: &[u8], place: usize, range: Range, numbers: &mut [u16]) ->
     fill(body, numbers);
     match grid::check_axis(&numbers[..body.len() / 2], range) {
         Ok(()) => Ok(()),
-        Err(fault) => match fault {
-            AxisFault::OutOfRange(i) => Err(Refusal::OutOfRange(place + 2 * i)),
-            AxisFault::NotRising(i) => Err(Refusal::NotRising(place + 2 * i)),
-        },
+        Err(fault) => Err(fault.refusal(place + 2 * fault.index())),
     }
 }
 

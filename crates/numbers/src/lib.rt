@@ -8,7 +8,7 @@ ghost use Rattle.sensor.specs.Sensor.{sensor_check, sensor_numbers};
 ghost use Rattle.component.specs.Answers.{outputs_of};
 ghost use Rattle.numbers.specs.Check.{axle_check, axis_check, axes_check, sensors_check, measured_check, numbers_check};
 
-use grid::{Axis, AxisFault, Grid, Range};
+use grid::{Axis, Grid, Range};
 use refusal::Refusal;
 use sensor::Sensor;
 
@@ -51,13 +51,7 @@ fn axis_check<const N: usize>(axis: &Axis<N>, range: Range) -> Result<(), Refusa
     let Some(numbers) = grid::counted(axis) else {
         return Err(Refusal::WrongLength(0));
     };
-    match grid::check_axis(numbers, range) {
-        Ok(()) => Ok(()),
-        Err(fault) => match fault {
-            AxisFault::OutOfRange(_) => Err(Refusal::OutOfRange(0)),
-            AxisFault::NotRising(_) => Err(Refusal::NotRising(0)),
-        },
-    }
+    grid::check_axis(numbers, range).map_err(|fault| fault.refusal(0))
 }
 
 #[tactic(auto, unfolding(crate::specs::Check::axes_check))]
