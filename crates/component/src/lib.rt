@@ -1,8 +1,9 @@
 // Reads component data: a run of fields, each a tag, a length in two bytes and a body.
 #![tactic(auto)]
 
-ghost use Rattle.std.specs.Prelude.{◌≡◌, ◌+◌, ◌*◌, ◌≤◌, length, IfOk, IfSome};
+ghost use Rattle.std.specs.Prelude.{false, ◌≡◌, ◌+◌, ◌*◌, ◌≤◌, length, IfOk, IfSome, MatchOption};
 ghost use Rattle.refusal.specs.Table.{outcome_as};
+ghost use Rattle.grid.specs.Axis.{◌to◌, within};
 ghost use Rattle.component.specs.Component.{output_tags, rows_tag, row_length, kind_number, axle_fields, axes_fields, sensor_fields, measured_fields, kind_fields};
 ghost use Rattle.component.specs.Answers.{number_of, axle_run_of, axes_run_of, CountsWithin, outputs_run_of, measured_run_of, kind_in, kind_run_of, RowsWithin, Reads};
 
@@ -63,15 +64,16 @@ impl Kind {
         }
     }
 
-    // Of a number that was tested, so that `TryFrom` would bring an error that cannot come.
-    fn from_number(number: u16) -> Kind
-        requires { (1 ≤ number) × (number ≤ 3) }
-        ensures { number_of result ≡ number }
+    // The kind of a number, where one has it.
+    #[tactic(auto, using(grid::proofs::AxisLaws::not_within))]
+    pub fn from_number(number: u16) -> Option<Kind>
+        ensures { MatchOption result (within (1 to 3) number ≡ false) (λ kind. number_of kind ≡ number) }
     {
         match number {
-            1 => Kind::Standard,
-            2 => Kind::Measured,
-            _ => Kind::HalfShafts,
+            1 => Some(Kind::Standard),
+            2 => Some(Kind::Measured),
+            3 => Some(Kind::HalfShafts),
+            _ => None,
         }
     }
 }
@@ -131,7 +133,8 @@ fn read_axle(data: &[u8], start: Cursor) -> Result<Run<Axle>, Refusal>
     let ratio = line.next.number(data, 3, Width::Two, RATIOS)?;
     Ok(Run {
         value: Axle {
-            kind: Kind::from_number(kind.value),
+            // there is one, for the number is in its range
+            kind: Kind::from_number(kind.value).unwrap(),
             line: line.value,
             ratio: ratio.value,
         },
