@@ -8,7 +8,7 @@ use Rattle.component.specs.Component.{Run, Axle as AxleSays, AxesNumbers, Rows a
 use Rattle.sensor.specs.declared.Sensor.{Sensor}
 use Rattle.component.specs.declared.Kind.{Kind as KindRead}
 use Rattle.component.specs.declared.Kind.TheVariants.{Standard, Measured, HalfShafts}
-use Rattle.component.specs.declared.Run.{Run as RunRead}
+use Rattle.fields.specs.declared.Cursor.{Cursor}
 use Rattle.component.specs.declared.Axle.{Axle}
 use Rattle.component.specs.declared.Outputs.{Outputs}
 use Rattle.component.specs.declared.Rows.{Rows}
@@ -21,14 +21,14 @@ number_of Standard = 1
 number_of Measured = 2
 number_of HalfShafts = 3
 
--- what the value of a run stands for
-abbrev pub run_of : {A B : Type 0} → (A → B) → RunRead A → Run B
-run_of meaning run = record { value = meaning run.value; next = run.next.at }
+-- what a run of fields says in them, and the place of the cursor past it
+abbrev pub run_of : {A B : Type 0} → (A → B) → A × Cursor → Run B
+run_of meaning run = record { value = meaning run.0; next = run.1.at }
 
-abbrev pub axle_run_of : RunRead Axle → Run AxleSays
+abbrev pub axle_run_of : Axle × Cursor → Run AxleSays
 axle_run_of run = run_of (λ a. record { kind = number_of a.kind; line = a.line; ratio = a.ratio }) run
 
-abbrev pub axes_run_of : RunRead Grid → Run AxesNumbers
+abbrev pub axes_run_of : Grid × Cursor → Run AxesNumbers
 axes_run_of run = run_of (λ grid. record { speeds = counted_numbers grid.speeds; torques = counted_numbers grid.torques }) run
 
 -- no axis has more numbers than it has places
@@ -50,7 +50,7 @@ abbrev pub output_sensors : (output : Sensor) (right : Option Sensor) → List S
 output_sensors output None = output ∷ []
 output_sensors output (Some right) = output ∷ right ∷ []
 
-abbrev pub outputs_run_of : RunRead Outputs → Run (List Sensor)
+abbrev pub outputs_run_of : Outputs × Cursor → Run (List Sensor)
 outputs_run_of run = run_of (λ outputs. output_sensors outputs.output outputs.right) run
 
 -- the kind, with the fields that only measured data has
@@ -61,10 +61,10 @@ abbrev pub kind_in : Option MeasuredRead → Kind
 kind_in None = standard
 kind_in (Some m) = measured_in m
 
-abbrev pub measured_run_of : RunRead MeasuredRead → Run Kind
+abbrev pub measured_run_of : MeasuredRead × Cursor → Run Kind
 measured_run_of run = run_of measured_in run
 
-abbrev pub kind_run_of : RunRead (Option MeasuredRead) → Run Kind
+abbrev pub kind_run_of : Option MeasuredRead × Cursor → Run Kind
 kind_run_of run = run_of kind_in run
 
 -- of numbers that are handed over: the output sensors of a measured kind by its number; of kind 2 the right one means nothing

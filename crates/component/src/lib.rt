@@ -108,13 +108,6 @@ pub const RATIOS: Range = Range {
     highest: 20_000,
 };
 
-// What a run of fields says, and the cursor past it.
-#[derive(Clone, Copy)]
-struct Run<T> {
-    pub value: T,
-    pub next: Cursor,
-}
-
 #[derive(Clone, Copy)]
 struct Axle {
     pub kind: Kind,
@@ -123,30 +116,28 @@ struct Axle {
     pub ratio: u16,
 }
 
-// Tags 1 to 3.
+// Tags 1 to 3. Each run of fields gives what it says, and the cursor past it.
 #[tactic(auto, unfolding(crate::specs::Component::axle_fields))]
-fn read_axle(data: &[u8], start: Cursor) -> Result<Run<Axle>, Refusal>
+fn read_axle(data: &[u8], start: Cursor) -> Result<(Axle, Cursor), Refusal>
     ensures { outcome_as axle_run_of result ≡ axle_fields «data».now start.at }
 {
     let kind = start.number(data, 1, Width::One, KINDS)?;
     let line = kind.next.number(data, 2, Width::One, LINES)?;
     let ratio = line.next.number(data, 3, Width::Two, RATIOS)?;
-    Ok(Run {
-        value: Axle {
-            // there is one, for the number is in its range
-            kind: Kind::from_number(kind.value).unwrap(),
-            line: line.value,
-            ratio: ratio.value,
-        },
-        next: ratio.next,
-    })
+    let axle = Axle {
+        // there is one, for the number is in its range
+        kind: Kind::from_number(kind.value).unwrap(),
+        line: line.value,
+        ratio: ratio.value,
+    };
+    Ok((axle, ratio.next))
 }
 
 // Tags 4 and 5.
 #[tactic(auto, using(fields::proofs::Bodies::first_step_lem), unfolding(crate::specs::Component::axes_fields))]
-fn read_axes(data: &[u8], start: Cursor) -> Result<Run<Grid>, Refusal>
+fn read_axes(data: &[u8], start: Cursor) -> Result<(Grid, Cursor), Refusal>
     ensures answer { outcome_as axes_run_of result ≡ axes_fields «data».now start.at }
-    ensures counts { IfOk result (λ axes. CountsWithin axes.value) }
+    ensures counts { IfOk result (λ run. CountsWithin run.0) }
 {
     let speeds = start.axis(data, 4, grid::SPEED_RANGE)?;
     let torques = speeds.next.axis(data, 5, grid::TORQUE_RANGE)?;
@@ -157,10 +148,7 @@ fn read_axes(data: &[u8], start: Cursor) -> Result<Run<Grid>, Refusal>
     if !grid::first_step_holds(grid.torques.numbers[0], grid.torques.numbers[1]) {
         return Err(Refusal::FirstTorqueAboveStep(torques.start));
     }
-    Ok(Run {
-        value: grid,
-        next: torques.next,
-    })
+    Ok((grid, torques.next))
 }
 
 #[derive(Clone, Copy)]
@@ -171,27 +159,23 @@ struct Outputs {
 
 // Tag 7, and where the kind has a sensor on each half shaft tag 9.
 #[tactic(auto, unfolding(crate::specs::Component::output_tags, crate::specs::Component::sensor_fields))]
-fn read_outputs(data: &[u8], start: Cursor, kind: Kind) -> Result<Run<Outputs>, Refusal>
+fn read_outputs(data: &[u8], start: Cursor, kind: Kind) -> Result<(Outputs, Cursor), Refusal>
     ensures { outcome_as outputs_run_of result ≡ sensor_fields «data».now start.at (output_tags (number_of kind)) }
 {
     let output = start.sensor(data, 7)?;
     if let Kind::Measured = kind {
-        return Ok(Run {
-            value: Outputs {
-                output: output.value,
-                right: None,
-            },
-            next: output.next,
-        });
+        let outputs = Outputs {
+            output: output.value,
+            right: None,
+        };
+        return Ok((outputs, output.next));
     }
     let right = output.next.sensor(data, 9)?;
-    Ok(Run {
-        value: Outputs {
-            output: output.value,
-            right: Some(right.value),
-        },
-        next: right.next,
-    })
+    let outputs = Outputs {
+        output: output.value,
+        right: Some(right.value),
+    };
+    Ok((outputs, right.next))
 }
 
 // The tag of the rows. It answers for any number, and a `Kind` would ask more of a caller.
@@ -217,27 +201,25 @@ fn read_measured(
     start: Cursor,
     kind: Kind,
     points: usize,
-) -> Result<Run<Measured<'_>>, Refusal>
+) -> Result<(Measured<'_>, Cursor), Refusal>
     requires { points ≤ 2048 }
     ensures answer { outcome_as measured_run_of result ≡ measured_fields «data».now start.at (number_of kind) points }
-    ensures rows_within { IfOk result (λ run. RowsWithin (length «data».now) run.value.rows) }
+    ensures rows_within { IfOk result (λ run. RowsWithin (length «data».now) run.0.rows) }
 {
     let input = start.sensor(data, 6)?;
-    let outputs = read_outputs(data, input.next, kind)?;
+    let (outputs, next) = read_outputs(data, input.next, kind)?;
     let allowed = Allowed::Exactly(rows_length(kind, points));
-    let rows = outputs.next.field(data, rows_tag(kind.number()), allowed)?;
-    Ok(Run {
-        value: Measured {
-            input: input.value,
-            output: outputs.value.output,
-            right: outputs.value.right,
-            rows: Rows {
-                start: rows.start,
-                bytes: rows.body,
-            },
+    let rows = next.field(data, rows_tag(kind.number()), allowed)?;
+    let measured = Measured {
+        input: input.value,
+        output: outputs.output,
+        right: outputs.right,
+        rows: Rows {
+            start: rows.start,
+            bytes: rows.value,
         },
-        next: rows.next,
-    })
+    };
+    Ok((measured, rows.next))
 }
 
 // What follows the axes.
@@ -247,22 +229,16 @@ fn read_kind(
     start: Cursor,
     kind: Kind,
     points: usize,
-) -> Result<Run<Option<Measured<'_>>>, Refusal>
+) -> Result<(Option<Measured<'_>>, Cursor), Refusal>
     requires { points ≤ 2048 }
     ensures answer { outcome_as kind_run_of result ≡ kind_fields «data».now start.at (number_of kind) points }
-    ensures rows_within { IfOk result (λ run. IfSome run.value (λ m. RowsWithin (length «data».now) m.rows)) }
+    ensures rows_within { IfOk result (λ run. IfSome run.0 (λ m. RowsWithin (length «data».now) m.rows)) }
 {
     if let Kind::Standard = kind {
-        return Ok(Run {
-            value: None,
-            next: start,
-        });
+        return Ok((None, start));
     }
-    let measured = read_measured(data, start, kind, points)?;
-    Ok(Run {
-        value: Some(measured.value),
-        next: measured.next,
-    })
+    let (measured, next) = read_measured(data, start, kind, points)?;
+    Ok((Some(measured), next))
 }
 
 // Reads the fields in their order; then nothing may follow.
@@ -270,18 +246,18 @@ fn read_kind(
 pub fn read(data: &[u8]) -> Result<Component<'_>, Refusal>
     ensures { Reads «data».now result }
 {
-    let axle = read_axle(data, Cursor { at: 0 })?;
-    let axes = read_axes(data, axle.next)?;
-    let points = axes.value.speeds.count * axes.value.torques.count;
-    let measured = read_kind(data, axes.next, axle.value.kind, points)?;
-    let end = measured.next.at;
+    let (axle, next) = read_axle(data, Cursor { at: 0 })?;
+    let (grid, next) = read_axes(data, next)?;
+    let points = grid.speeds.count * grid.torques.count;
+    let (measured, next) = read_kind(data, next, axle.kind, points)?;
+    let end = next.at;
     if end < data.len() {
         return Err(Refusal::TrailingBytes(end));
     }
     Ok(Component {
-        line: axle.value.line,
-        ratio: axle.value.ratio,
-        grid: axes.value,
-        measured: measured.value,
+        line: axle.line,
+        ratio: axle.ratio,
+        grid,
+        measured,
     })
 }

@@ -103,21 +103,28 @@ pub struct Cursor {
     pub at: usize,
 }
 
-// A field whose head is right and whose body is there: kind is the tag that was read, start the place of the body's first byte.
-#[derive(Clone, Copy)]
-pub struct Found<'a> {
-    pub kind: u8,
-    pub start: usize,
-    pub body: &'a [u8],
-    pub next: Cursor,
-}
-
-// What a field says, the place of its body's first byte, and the cursor past it.
+// A field that was read: kind is the tag that stands there, value what its body says, start the place of the body's first byte,
+// and next the cursor past it.
 #[derive(Clone, Copy)]
 pub struct Field<T> {
+    pub kind: u8,
     pub value: T,
     pub start: usize,
     pub next: Cursor,
+}
+
+impl Field<&[u8]> {
+    // The same field, with what its body says in place of the body.
+    fn with_value<T>(self, value: T) -> Field<T>
+        ensures { result ≡ record { kind = self.entry.kind; value = value; start = self.entry.start; next = self.entry.next } }
+    {
+        Field {
+            kind: self.kind,
+            value,
+            start: self.start,
+            next: self.next,
+        }
+    }
 }
 
 // Writes the numbers of an axis body to the first places of what is lent; place is where the body starts in the data,
@@ -147,10 +154,10 @@ fn read_sensor(body: &[u8], place: usize) -> Result<Sensor, Refusal>
 }
 
 impl Cursor {
-    // The field that is due here.
-    pub fn field(self, data: &[u8], tag: u8, allowed: Allowed) -> Result<Found<'_>, Refusal>
+    // The field that is due here, with its body: its head is right, and the body is there.
+    pub fn field(self, data: &[u8], tag: u8, allowed: Allowed) -> Result<Field<&[u8]>, Refusal>
         ensures answer { outcome_as head_of result ≡ head «data».now self.at tag (allowed_of allowed) }
-        ensures body { IfOk result (λ found. found.body.now ≡ between «data».now found.start found.next.at) }
+        ensures body { IfOk result (λ field. field.value.now ≡ between «data».now field.start field.next.at) }
     {
         let at = self.at;
         if data.len() <= at {
@@ -172,10 +179,10 @@ impl Cursor {
             return Err(Refusal::Incomplete(at));
         }
         let end = start + length;
-        Ok(Found {
+        Ok(Field {
             kind,
+            value: &data[start..end],
             start,
-            body: &data[start..end],
             next: Cursor { at: end },
         })
     }
@@ -189,18 +196,15 @@ impl Cursor {
         range: Range,
     ) -> Result<Field<u16>, Refusal>
         ensures answer { outcome_as field_of result ≡ field «data».now self.at tag (exactly (number_bytes width)) (number range) }
+        ensures tagged { IfOk result (λ field. field.kind ≡ tag) }
         ensures in_range { IfOk result (λ field. (range.lowest ≤ field.value) × (field.value ≤ range.highest)) }
     {
         let found = self.field(data, tag, Allowed::Exactly(width.bytes()))?;
-        let value = number_of(found.body);
+        let value = number_of(found.value);
         if !range.contains(value) {
             return Err(Refusal::OutOfRange(found.start));
         }
-        Ok(Field {
-            value,
-            start: found.start,
-            next: found.next,
-        })
+        Ok(found.with_value(value))
     }
 
     // The field of an axis, of two numbers to as many as the axis has places.
@@ -211,29 +215,23 @@ impl Cursor {
         range: Range,
     ) -> Result<Field<Axis<N>>, Refusal>
         ensures answer { outcome_as axis_field_of result ≡ field «data».now self.at tag (numbers_from 2 N) (axis range) }
+        ensures tagged { IfOk result (λ field. field.kind ≡ tag) }
         ensures count_within { IfOk result (λ field. (2 ≤ field.value.count) × (field.value.count ≤ N)) }
     {
         let found = self.field(data, tag, Allowed::Numbers(2, N))?;
         let mut numbers = [0; N];
-        read_numbers(found.body, found.start, range, &mut numbers)?;
-        let count = found.body.len() / 2;
-        Ok(Field {
-            value: Axis { numbers, count },
-            start: found.start,
-            next: found.next,
-        })
+        read_numbers(found.value, found.start, range, &mut numbers)?;
+        let count = found.value.len() / 2;
+        Ok(found.with_value(Axis { numbers, count }))
     }
 
     // The field of a sensor.
     pub fn sensor(self, data: &[u8], tag: u8) -> Result<Field<Sensor>, Refusal>
-        ensures { outcome_as field_of result ≡ field «data».now self.at tag (exactly 18) sensor }
+        ensures answer { outcome_as field_of result ≡ field «data».now self.at tag (exactly 18) sensor }
+        ensures tagged { IfOk result (λ field. field.kind ≡ tag) }
     {
         let found = self.field(data, tag, Allowed::Exactly(18))?;
-        let value = read_sensor(found.body, found.start)?;
-        Ok(Field {
-            value,
-            start: found.start,
-            next: found.next,
-        })
+        let value = read_sensor(found.value, found.start)?;
+        Ok(found.with_value(value))
     }
 }

@@ -1,7 +1,7 @@
 use Rattle.std.proofs.Common.{arith}
 use Rattle.std.proofs.lemmas.Result.{err_from_is_err_and}
 use Rattle.std.proofs.Common.{sym, ◌∙◌}
-use Rattle.fields.proofs.Heads.{exact_body, head_refused, body_refused, body_accepted}
+use Rattle.fields.proofs.Heads.{exact_body, tag_read, head_refused, body_refused, body_accepted}
 use Rattle.fields.proofs.Bodies.{number_accepted, number_refused}
 use Rattle.grid.proofs.AxisLaws.{in_range}
 use Rattle.fields.proofs.Cursor.number.Goals as goal
@@ -23,8 +23,12 @@ returns-then-not-contains-clause-answer c =
 
 pub returns-clause-answer : goal.returns-clause-answer
 returns-clause-answer c =
-    body_accepted _ _ _ _ _ _ (rw c.bytes.ensures.answer at c.in_ok-found.ensures.answer) _
-    (number_accepted _ _ _ _ _ (rw c.in_ok-found.ensures.body at c.number_of-value.ensures) c.contains.ensures c.if-not-contains.false)
+    rw c.with_value.ensures
+    (body_accepted _ _ _ _ _ _ (rw c.bytes.ensures.answer at c.in_ok-found.ensures.answer) _
+    (number_accepted _ _ _ _ _ (rw c.in_ok-found.ensures.body at c.number_of-value.ensures) c.contains.ensures c.if-not-contains.false))
 
 pub returns-clause-in_range : goal.returns-clause-in_range
-returns-clause-in_range c = in_range _ _ (sym c.contains.ensures ∙ c.if-not-contains.false)
+returns-clause-in_range c = rw c.with_value.ensures (in_range _ _ (sym c.contains.ensures ∙ c.if-not-contains.false))
+
+pub returns-clause-tagged : goal.returns-clause-tagged
+returns-clause-tagged c = rw c.with_value.ensures (tag_read _ _ _ _ _ c.in_ok-found.ensures.answer)
