@@ -1,5 +1,6 @@
 -- What the code's answers say in document 01's terms.
 use Rattle.std.specs.Prelude.{ℕ, ◌+◌, ◌≤◌, List, [], ◌∷◌, ◌≡◌, eqb, length, if◌then◌else◌, Option, Some, None, Result, IfOk, IfSome}
+use Rattle.refusal.specs.Outcome.{Outcome}
 use Rattle.refusal.specs.Table.{outcome_as}
 use Rattle.refusal.specs.declared.Refusal.{Refusal}
 use Rattle.grid.specs.Map.{counted_numbers}
@@ -21,15 +22,16 @@ number_of Standard = 1
 number_of Measured = 2
 number_of HalfShafts = 3
 
--- what a run of fields says in them, and the place of the cursor past it
-abbrev pub run_of : {A B : Type 0} → (A → B) → A × Cursor → Run B
-run_of meaning run = record { value = meaning run.0; next = run.1.at }
+-- what reading a run of fields where a cursor stands gives: its outcome, and where it was read the cursor past it, in the same data
+pub record RunOf {A B : Type 0} (start : Cursor) (fields : List ℕ → ℕ → Outcome (Run B)) (meaning : A → B) (result : Result (A × Cursor) Refusal) : Type 0 where
+  pub outcome : outcome_as (λ (run : A × Cursor). record { value = meaning run.0; next = run.1.at }) result ≡ fields start.data.now start.at
+  pub same_data : IfOk result (λ run. run.1.data ≡ start.data)
 
-abbrev pub axle_run_of : Axle × Cursor → Run AxleSays
-axle_run_of run = run_of (λ a. record { kind = number_of a.kind; line = a.line; ratio = a.ratio }) run
+abbrev pub axle_of : Axle → AxleSays
+axle_of axle = record { kind = number_of axle.kind; line = axle.line; ratio = axle.ratio }
 
-abbrev pub axes_run_of : Grid × Cursor → Run AxesNumbers
-axes_run_of run = run_of (λ grid. record { speeds = counted_numbers grid.speeds; torques = counted_numbers grid.torques }) run
+abbrev pub axes_of : Grid → AxesNumbers
+axes_of grid = record { speeds = counted_numbers grid.speeds; torques = counted_numbers grid.torques }
 
 -- no axis has more numbers than it has places
 pub record CountsWithin (grid : Grid) : Type 0 where
@@ -50,8 +52,8 @@ abbrev pub output_sensors : (output : Sensor) (right : Option Sensor) → List S
 output_sensors output None = output ∷ []
 output_sensors output (Some right) = output ∷ right ∷ []
 
-abbrev pub outputs_run_of : Outputs × Cursor → Run (List Sensor)
-outputs_run_of run = run_of (λ outputs. output_sensors outputs.output outputs.right) run
+abbrev pub outputs_in : Outputs → List Sensor
+outputs_in outputs = output_sensors outputs.output outputs.right
 
 -- the kind, with the fields that only measured data has
 abbrev pub measured_in : MeasuredRead → Kind
@@ -60,12 +62,6 @@ measured_in m = measured m.input (output_sensors m.output m.right) (rows_of m.ro
 abbrev pub kind_in : Option MeasuredRead → Kind
 kind_in None = standard
 kind_in (Some m) = measured_in m
-
-abbrev pub measured_run_of : MeasuredRead × Cursor → Run Kind
-measured_run_of run = run_of measured_in run
-
-abbrev pub kind_run_of : Option MeasuredRead × Cursor → Run Kind
-kind_run_of run = run_of kind_in run
 
 -- of numbers that are handed over: the output sensors of a measured kind by its number; of kind 2 the right one means nothing
 abbrev pub outputs_of : (kind : ℕ) (output right : Sensor) → List Sensor

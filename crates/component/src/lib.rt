@@ -5,7 +5,7 @@ ghost use Rattle.std.specs.Prelude.{false, ◌≡◌, ◌+◌, ◌*◌, ◌≤�
 ghost use Rattle.refusal.specs.Table.{outcome_as};
 ghost use Rattle.grid.specs.Axis.{◌to◌, within};
 ghost use Rattle.component.specs.Component.{output_tags, rows_tag, row_length, kind_number, axle_fields, axes_fields, sensor_fields, measured_fields, kind_fields};
-ghost use Rattle.component.specs.Answers.{number_of, axle_run_of, axes_run_of, CountsWithin, outputs_run_of, measured_run_of, kind_in, kind_run_of, RowsWithin, Reads};
+ghost use Rattle.component.specs.Answers.{number_of, RunOf, axle_of, axes_of, CountsWithin, outputs_in, measured_in, kind_in, RowsWithin, Reads};
 
 use fields::{Allowed, Cursor, Width};
 use grid::{Grid, Range};
@@ -118,12 +118,12 @@ struct Axle {
 
 // Tags 1 to 3. Each run of fields gives what it says, and the cursor past it.
 #[tactic(auto, unfolding(crate::specs::Component::axle_fields))]
-fn read_axle(data: &[u8], start: Cursor) -> Result<(Axle, Cursor), Refusal>
-    ensures { outcome_as axle_run_of result ≡ axle_fields «data».now start.at }
+fn read_axle(start: Cursor<'_>) -> Result<(Axle, Cursor<'_>), Refusal>
+    ensures { RunOf start.entry axle_fields axle_of result }
 {
-    let kind = start.number(data, 1, Width::One, KINDS)?;
-    let line = kind.next.number(data, 2, Width::One, LINES)?;
-    let ratio = line.next.number(data, 3, Width::Two, RATIOS)?;
+    let kind = start.number(1, Width::One, KINDS)?;
+    let line = kind.next.number(2, Width::One, LINES)?;
+    let ratio = line.next.number(3, Width::Two, RATIOS)?;
     let axle = Axle {
         // there is one, for the number is in its range
         kind: Kind::from_number(kind.value).unwrap(),
@@ -135,12 +135,12 @@ fn read_axle(data: &[u8], start: Cursor) -> Result<(Axle, Cursor), Refusal>
 
 // Tags 4 and 5.
 #[tactic(auto, using(fields::proofs::Bodies::first_step_lem), unfolding(crate::specs::Component::axes_fields))]
-fn read_axes(data: &[u8], start: Cursor) -> Result<(Grid, Cursor), Refusal>
-    ensures answer { outcome_as axes_run_of result ≡ axes_fields «data».now start.at }
+fn read_axes(start: Cursor<'_>) -> Result<(Grid, Cursor<'_>), Refusal>
+    ensures answer { RunOf start.entry axes_fields axes_of result }
     ensures counts { IfOk result (λ run. CountsWithin run.0) }
 {
-    let speeds = start.axis(data, 4, grid::SPEED_RANGE)?;
-    let torques = speeds.next.axis(data, 5, grid::TORQUE_RANGE)?;
+    let speeds = start.axis(4, grid::SPEED_RANGE)?;
+    let torques = speeds.next.axis(5, grid::TORQUE_RANGE)?;
     let grid = Grid {
         speeds: speeds.value,
         torques: torques.value,
@@ -159,10 +159,10 @@ struct Outputs {
 
 // Tag 7, and where the kind has a sensor on each half shaft tag 9.
 #[tactic(auto, unfolding(crate::specs::Component::output_tags, crate::specs::Component::sensor_fields))]
-fn read_outputs(data: &[u8], start: Cursor, kind: Kind) -> Result<(Outputs, Cursor), Refusal>
-    ensures { outcome_as outputs_run_of result ≡ sensor_fields «data».now start.at (output_tags (number_of kind)) }
+fn read_outputs(start: Cursor<'_>, kind: Kind) -> Result<(Outputs, Cursor<'_>), Refusal>
+    ensures { RunOf start.entry (λ bytes at. sensor_fields bytes at (output_tags (number_of kind))) outputs_in result }
 {
-    let output = start.sensor(data, 7)?;
+    let output = start.sensor(7)?;
     if let Kind::Measured = kind {
         let outputs = Outputs {
             output: output.value,
@@ -170,7 +170,7 @@ fn read_outputs(data: &[u8], start: Cursor, kind: Kind) -> Result<(Outputs, Curs
         };
         return Ok((outputs, output.next));
     }
-    let right = output.next.sensor(data, 9)?;
+    let right = output.next.sensor(9)?;
     let outputs = Outputs {
         output: output.value,
         right: Some(right.value),
@@ -197,19 +197,18 @@ fn rows_length(kind: Kind, points: usize) -> usize
 // From tag 6 on, for so many points.
 #[tactic(auto, unfolding(crate::specs::Component::measured_fields))]
 fn read_measured(
-    data: &[u8],
-    start: Cursor,
+    start: Cursor<'_>,
     kind: Kind,
     points: usize,
-) -> Result<(Measured<'_>, Cursor), Refusal>
+) -> Result<(Measured<'_>, Cursor<'_>), Refusal>
     requires { points ≤ 2048 }
-    ensures answer { outcome_as measured_run_of result ≡ measured_fields «data».now start.at (number_of kind) points }
-    ensures rows_within { IfOk result (λ run. RowsWithin (length «data».now) run.0.rows) }
+    ensures answer { RunOf start.entry (λ bytes at. measured_fields bytes at (number_of kind) points) measured_in result }
+    ensures rows_within { IfOk result (λ run. RowsWithin (length start.entry.data.now) run.0.rows) }
 {
-    let input = start.sensor(data, 6)?;
-    let (outputs, next) = read_outputs(data, input.next, kind)?;
+    let input = start.sensor(6)?;
+    let (outputs, next) = read_outputs(input.next, kind)?;
     let allowed = Allowed::Exactly(rows_length(kind, points));
-    let rows = next.field(data, rows_tag(kind.number()), allowed)?;
+    let rows = next.field(rows_tag(kind.number()), allowed)?;
     let measured = Measured {
         input: input.value,
         output: outputs.output,
@@ -225,19 +224,18 @@ fn read_measured(
 // What follows the axes.
 #[tactic(auto, unfolding(crate::specs::Component::kind_fields))]
 fn read_kind(
-    data: &[u8],
-    start: Cursor,
+    start: Cursor<'_>,
     kind: Kind,
     points: usize,
-) -> Result<(Option<Measured<'_>>, Cursor), Refusal>
+) -> Result<(Option<Measured<'_>>, Cursor<'_>), Refusal>
     requires { points ≤ 2048 }
-    ensures answer { outcome_as kind_run_of result ≡ kind_fields «data».now start.at (number_of kind) points }
-    ensures rows_within { IfOk result (λ run. IfSome run.0 (λ m. RowsWithin (length «data».now) m.rows)) }
+    ensures answer { RunOf start.entry (λ bytes at. kind_fields bytes at (number_of kind) points) kind_in result }
+    ensures rows_within { IfOk result (λ run. IfSome run.0 (λ m. RowsWithin (length start.entry.data.now) m.rows)) }
 {
     if let Kind::Standard = kind {
         return Ok((None, start));
     }
-    let (measured, next) = read_measured(data, start, kind, points)?;
+    let (measured, next) = read_measured(start, kind, points)?;
     Ok((Some(measured), next))
 }
 
@@ -246,10 +244,10 @@ fn read_kind(
 pub fn read(data: &[u8]) -> Result<Component<'_>, Refusal>
     ensures { Reads «data».now result }
 {
-    let (axle, next) = read_axle(data, Cursor { at: 0 })?;
-    let (grid, next) = read_axes(data, next)?;
+    let (axle, next) = read_axle(Cursor { data, at: 0 })?;
+    let (grid, next) = read_axes(next)?;
     let points = grid.speeds.count * grid.torques.count;
-    let (measured, next) = read_kind(data, next, axle.kind, points)?;
+    let (measured, next) = read_kind(next, axle.kind, points)?;
     let end = next.at;
     if end < data.len() {
         return Err(Refusal::TrailingBytes(end));

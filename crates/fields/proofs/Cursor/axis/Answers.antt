@@ -1,7 +1,7 @@
 use Rattle.std.proofs.Common.{ℕ, arith}
 use Rattle.std.proofs.lemmas.List.{length-replicate}
 use Rattle.std.proofs.lemmas.Result.{err_from_is_err_and}
-use Rattle.fields.proofs.Heads.{numbers_body, tag_read, head_refused, body_refused, body_accepted}
+use Rattle.fields.proofs.Heads.{numbers_body, head_refused, body_refused, body_accepted}
 use Rattle.fields.proofs.Cursor.axis.Goals as goal
 
 pub returns-in_err-found-clause-answer : goal.returns-in_err-found-clause-answer
@@ -28,5 +28,5 @@ returns-clause-count_within g c =
     let l = numbers_body _ _ _ _ _ c.in_ok-found.ensures.body 2 _ c.in_ok-found.ensures.answer in
     rw c.with_value.ensures (l.1, omega (arith, l.0))
 
-pub returns-clause-tagged : goal.returns-clause-tagged
-returns-clause-tagged g c = rw c.with_value.ensures (tag_read _ _ _ _ _ c.in_ok-found.ensures.answer)
+pub returns-clause-due : goal.returns-clause-due
+returns-clause-due g c = rw c.with_value.ensures (record { tagged = c.in_ok-found.ensures.due.tagged; same_data = c.in_ok-found.ensures.due.same_data })

@@ -1,7 +1,7 @@
 use Rattle.std.proofs.Common.{arith}
 use Rattle.std.proofs.lemmas.Result.{err_from_is_err_and}
 use Rattle.std.proofs.Common.{sym, ◌∙◌}
-use Rattle.fields.proofs.Heads.{exact_body, tag_read, head_refused, body_refused, body_accepted}
+use Rattle.fields.proofs.Heads.{exact_body, head_refused, body_refused, body_accepted}
 use Rattle.fields.proofs.Bodies.{number_accepted, number_refused}
 use Rattle.grid.proofs.AxisLaws.{in_range}
 use Rattle.fields.proofs.Cursor.number.Goals as goal
@@ -30,5 +30,5 @@ returns-clause-answer c =
 pub returns-clause-in_range : goal.returns-clause-in_range
 returns-clause-in_range c = rw c.with_value.ensures (in_range _ _ (sym c.contains.ensures ∙ c.if-not-contains.false))
 
-pub returns-clause-tagged : goal.returns-clause-tagged
-returns-clause-tagged c = rw c.with_value.ensures (tag_read _ _ _ _ _ c.in_ok-found.ensures.answer)
+pub returns-clause-due : goal.returns-clause-due
+returns-clause-due c = rw c.with_value.ensures (record { tagged = c.in_ok-found.ensures.due.tagged; same_data = c.in_ok-found.ensures.due.same_data })

@@ -1,6 +1,6 @@
 use Rattle.std.proofs.Common.{arith}
 use Rattle.std.proofs.lemmas.Result.{err_from_is_err_and}
-use Rattle.fields.proofs.Heads.{exact_body, tag_read, head_refused, body_refused, body_accepted}
+use Rattle.fields.proofs.Heads.{exact_body, head_refused, body_refused, body_accepted}
 use Rattle.fields.proofs.Cursor.sensor.Goals as goal
 
 pub returns-in_err-found-clause-answer : goal.returns-in_err-found-clause-answer
@@ -22,5 +22,5 @@ pub returns-clause-answer : goal.returns-clause-answer
 returns-clause-answer c =
     rw c.with_value.ensures (body_accepted _ _ _ _ _ _ c.in_ok-found.ensures.answer _ (rw c.in_ok-found.ensures.body at c.in_ok-value.ensures))
 
-pub returns-clause-tagged : goal.returns-clause-tagged
-returns-clause-tagged c = rw c.with_value.ensures (tag_read _ _ _ _ _ c.in_ok-found.ensures.answer)
+pub returns-clause-due : goal.returns-clause-due
+returns-clause-due c = rw c.with_value.ensures (record { tagged = c.in_ok-found.ensures.due.tagged; same_data = c.in_ok-found.ensures.due.same_data })
