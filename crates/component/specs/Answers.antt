@@ -22,9 +22,13 @@ number_of Standard = 1
 number_of Measured = 2
 number_of HalfShafts = 3
 
--- what reading a run of fields where a cursor stands gives: its outcome, and where it was read the cursor past it, in the same data
+-- what a run of fields says, and the place of the cursor past it
+abbrev pub run_of : {A B : Type 0} → (A → B) → A × Cursor → Run B
+run_of meaning run = record { value = meaning run.0; next = run.1.at }
+
+-- what reading a run of fields where a cursor stands gives: its outcome; and where it was read, the cursor past it is in the same data
 pub record RunOf {A B : Type 0} (start : Cursor) (fields : List ℕ → ℕ → Outcome (Run B)) (meaning : A → B) (result : Result (A × Cursor) Refusal) : Type 0 where
-  pub outcome : outcome_as (λ (run : A × Cursor). record { value = meaning run.0; next = run.1.at }) result ≡ fields start.data.now start.at
+  pub outcome : outcome_as (run_of meaning) result ≡ fields start.data.now start.at
   pub same_data : IfOk result (λ run. run.1.data ≡ start.data)
 
 abbrev pub axle_of : Axle → AxleSays

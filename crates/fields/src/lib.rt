@@ -129,7 +129,7 @@ impl<'a> Field<'a, &'a [u8]> {
 }
 
 // Writes the numbers of an axis body to the first places of what is lent; place is where the body starts in the data,
-// apart from it here and below, for a struct of the two would be taken apart at once.
+// apart from it here and below, for a `Field` would be taken apart at once.
 fn read_numbers(body: &[u8], place: usize, range: Range, numbers: &mut [u16]) -> Result<(), Refusal>
     requires { (length body.now ≤ length numbers.old * 2) × (place + length body.now < 2 ^ 64) }
     ensures { outcome_as (λ nothing. take (length body.now / 2) numbers.new) result ≡ axis range body.now place }
