@@ -70,9 +70,6 @@ head_whole s at tag allowed f e =
       ends = rw (← h) (leb-true _ _ g.0);
     }
 
-pub tag_read : (s : List ℕ) (at tag : ℕ) (allowed : ℕ → Bool) (f : Head) → accepted f ≡ head s at tag allowed → f.tag ≡ tag
-tag_read s at tag allowed f e = (head_whole s at tag allowed f e).tag_is
-
 -- the body of a field that was read: it goes forward, ends within the bytes, and has a length that is allowed
 pub record Inside (s : List ℕ) (allowed : ℕ → Bool) (start end : ℕ) : Type 0 where
   pub forward : start ≤ end
