@@ -1,5 +1,6 @@
 -- What the code's answers say in document 01's terms.
 use Rattle.std.specs.Prelude.{ℕ, ◌+◌, ◌≤◌, List, [], ◌∷◌, ◌≡◌, eqb, length, if◌then◌else◌, Option, Some, None, Result, IfOk, IfSome}
+use Rattle.refusal.specs.Outcome.{Outcome}
 use Rattle.refusal.specs.Table.{outcome_as}
 use Rattle.refusal.specs.declared.Refusal.{Refusal}
 use Rattle.grid.specs.Map.{counted_numbers}
@@ -8,7 +9,7 @@ use Rattle.component.specs.Component.{Run, Axle as AxleSays, AxesNumbers, Rows a
 use Rattle.sensor.specs.declared.Sensor.{Sensor}
 use Rattle.component.specs.declared.Kind.{Kind as KindRead}
 use Rattle.component.specs.declared.Kind.TheVariants.{Standard, Measured, HalfShafts}
-use Rattle.component.specs.declared.Run.{Run as RunRead}
+use Rattle.fields.specs.declared.Cursor.{Cursor}
 use Rattle.component.specs.declared.Axle.{Axle}
 use Rattle.component.specs.declared.Outputs.{Outputs}
 use Rattle.component.specs.declared.rows.Rows.{Rows}
@@ -21,15 +22,20 @@ number_of Standard = 1
 number_of Measured = 2
 number_of HalfShafts = 3
 
--- what the value of a run stands for
-abbrev pub run_of : {A B : Type 0} → (A → B) → RunRead A → Run B
-run_of meaning run = record { value = meaning run.value; next = run.next.at }
+-- what a run of fields says, and the place of the cursor past it
+abbrev pub run_of : {A B : Type 0} → (A → B) → A × Cursor → Run B
+run_of meaning run = record { value = meaning run.0; next = run.1.at }
 
-abbrev pub axle_run_of : RunRead Axle → Run AxleSays
-axle_run_of run = run_of (λ a. record { kind = number_of a.kind; line = a.line; ratio = a.ratio }) run
+-- what reading a run of fields where a cursor stands gives: its outcome; and where it was read, the cursor past it is in the same data
+pub record RunOf {A B : Type 0} (start : Cursor) (fields : List ℕ → ℕ → Outcome (Run B)) (meaning : A → B) (result : Result (A × Cursor) Refusal) : Type 0 where
+  pub outcome : outcome_as (run_of meaning) result ≡ fields start.data.now start.at
+  pub same_data : IfOk result (λ run. run.1.data ≡ start.data)
 
-abbrev pub axes_run_of : RunRead Grid → Run AxesNumbers
-axes_run_of run = run_of (λ grid. record { speeds = counted_numbers grid.speeds; torques = counted_numbers grid.torques }) run
+abbrev pub axle_of : Axle → AxleSays
+axle_of axle = record { kind = number_of axle.kind; line = axle.line; ratio = axle.ratio }
+
+abbrev pub axes_of : Grid → AxesNumbers
+axes_of grid = record { speeds = counted_numbers grid.speeds; torques = counted_numbers grid.torques }
 
 -- no axis has more numbers than it has places
 pub record CountsWithin (grid : Grid) : Type 0 where
@@ -50,8 +56,8 @@ abbrev pub output_sensors : (output : Sensor) (right : Option Sensor) → List S
 output_sensors output None = output ∷ []
 output_sensors output (Some right) = output ∷ right ∷ []
 
-abbrev pub outputs_run_of : RunRead Outputs → Run (List Sensor)
-outputs_run_of run = run_of (λ outputs. output_sensors outputs.output outputs.right) run
+abbrev pub outputs_in : Outputs → List Sensor
+outputs_in outputs = output_sensors outputs.output outputs.right
 
 -- the kind, with the fields that only measured data has
 abbrev pub measured_in : MeasuredRead → Kind
@@ -60,12 +66,6 @@ measured_in m = measured m.input (output_sensors m.output m.right) (rows_of m.ro
 abbrev pub kind_in : Option MeasuredRead → Kind
 kind_in None = standard
 kind_in (Some m) = measured_in m
-
-abbrev pub measured_run_of : RunRead MeasuredRead → Run Kind
-measured_run_of run = run_of measured_in run
-
-abbrev pub kind_run_of : RunRead (Option MeasuredRead) → Run Kind
-kind_run_of run = run_of kind_in run
 
 -- of numbers that are handed over: the output sensors of a measured kind by its number; of kind 2 the right one means nothing
 abbrev pub outputs_of : (kind : ℕ) (output right : Sensor) → List Sensor

@@ -1,10 +1,11 @@
 // Reads component data: a run of fields, each a tag, a length in two bytes and a body.
 #![tactic(auto)]
 
-ghost use Rattle.std.specs.Prelude.{◌≡◌, ◌+◌, ◌*◌, ◌≤◌, length, IfOk, IfSome};
+ghost use Rattle.std.specs.Prelude.{false, ◌≡◌, ◌+◌, ◌*◌, ◌≤◌, length, IfOk, IfSome, MatchOption};
 ghost use Rattle.refusal.specs.Table.{outcome_as};
+ghost use Rattle.grid.specs.Axis.{◌to◌, within};
 ghost use Rattle.component.specs.Component.{output_tags, rows_tag, row_length, kind_number, axle_fields, axes_fields, sensor_fields, measured_fields, kind_fields};
-ghost use Rattle.component.specs.Answers.{number_of, axle_run_of, axes_run_of, CountsWithin, outputs_run_of, measured_run_of, kind_in, kind_run_of, RowsWithin, Reads};
+ghost use Rattle.component.specs.Answers.{number_of, RunOf, axle_of, axes_of, CountsWithin, outputs_in, measured_in, kind_in, RowsWithin, Reads};
 
 mod rows;
 
@@ -58,15 +59,16 @@ impl Kind {
         }
     }
 
-    // Of a number that was tested, so that `TryFrom` would bring an error that cannot come.
-    fn from_number(number: u16) -> Kind
-        requires { (1 ≤ number) × (number ≤ 3) }
-        ensures { number_of result ≡ number }
+    // The kind of a number, where one has it.
+    #[tactic(auto, using(grid::proofs::AxisLaws::not_within))]
+    pub fn from_number(number: u16) -> Option<Kind>
+        ensures { MatchOption result (within (1 to 3) number ≡ false) (λ kind. number_of kind ≡ number) }
     {
         match number {
-            1 => Kind::Standard,
-            2 => Kind::Measured,
-            _ => Kind::HalfShafts,
+            1 => Some(Kind::Standard),
+            2 => Some(Kind::Measured),
+            3 => Some(Kind::HalfShafts),
+            _ => None,
         }
     }
 }
@@ -101,13 +103,6 @@ pub const RATIOS: Range = Range {
     highest: 20_000,
 };
 
-// What a run of fields says, and the cursor past it.
-#[derive(Clone, Copy)]
-struct Run<T> {
-    pub value: T,
-    pub next: Cursor,
-}
-
 #[derive(Clone, Copy)]
 struct Axle {
     pub kind: Kind,
@@ -116,32 +111,31 @@ struct Axle {
     pub ratio: u16,
 }
 
-// Tags 1 to 3.
+// Tags 1 to 3. Each run of fields gives what it says, and the cursor past it.
 #[tactic(auto, unfolding(crate::specs::Component::axle_fields))]
-fn read_axle(data: &[u8], start: Cursor) -> Result<Run<Axle>, Refusal>
-    ensures { outcome_as axle_run_of result ≡ axle_fields «data».now start.at }
+fn read_axle(start: Cursor<'_>) -> Result<(Axle, Cursor<'_>), Refusal>
+    ensures { RunOf start.entry axle_fields axle_of result }
 {
-    let kind = start.number(data, 1, Width::One, KINDS)?;
-    let line = kind.next.number(data, 2, Width::One, LINES)?;
-    let ratio = line.next.number(data, 3, Width::Two, RATIOS)?;
-    Ok(Run {
-        value: Axle {
-            kind: Kind::from_number(kind.value),
-            line: line.value,
-            ratio: ratio.value,
-        },
-        next: ratio.next,
-    })
+    let kind = start.number(1, Width::One, KINDS)?;
+    let line = kind.next.number(2, Width::One, LINES)?;
+    let ratio = line.next.number(3, Width::Two, RATIOS)?;
+    let axle = Axle {
+        // there is one, for the number is in its range
+        kind: Kind::from_number(kind.value).unwrap(),
+        line: line.value,
+        ratio: ratio.value,
+    };
+    Ok((axle, ratio.next))
 }
 
 // Tags 4 and 5.
 #[tactic(auto, using(fields::proofs::Bodies::first_step_lem), unfolding(crate::specs::Component::axes_fields))]
-fn read_axes(data: &[u8], start: Cursor) -> Result<Run<Grid>, Refusal>
-    ensures answer { outcome_as axes_run_of result ≡ axes_fields «data».now start.at }
-    ensures counts { IfOk result (λ axes. CountsWithin axes.value) }
+fn read_axes(start: Cursor<'_>) -> Result<(Grid, Cursor<'_>), Refusal>
+    ensures answer { RunOf start.entry axes_fields axes_of result }
+    ensures counts { IfOk result (λ run. CountsWithin run.0) }
 {
-    let speeds = start.axis(data, 4, grid::SPEED_RANGE)?;
-    let torques = speeds.next.axis(data, 5, grid::TORQUE_RANGE)?;
+    let speeds = start.axis(4, grid::SPEED_RANGE)?;
+    let torques = speeds.next.axis(5, grid::TORQUE_RANGE)?;
     let grid = Grid {
         speeds: speeds.value,
         torques: torques.value,
@@ -149,10 +143,7 @@ fn read_axes(data: &[u8], start: Cursor) -> Result<Run<Grid>, Refusal>
     if !grid.torques.first_step_holds() {
         return Err(Refusal::FirstTorqueAboveStep(torques.start));
     }
-    Ok(Run {
-        value: grid,
-        next: torques.next,
-    })
+    Ok((grid, torques.next))
 }
 
 #[derive(Clone, Copy)]
@@ -163,27 +154,23 @@ struct Outputs {
 
 // Tag 7, and where the kind has a sensor on each half shaft tag 9.
 #[tactic(auto, unfolding(crate::specs::Component::output_tags, crate::specs::Component::sensor_fields))]
-fn read_outputs(data: &[u8], start: Cursor, kind: Kind) -> Result<Run<Outputs>, Refusal>
-    ensures { outcome_as outputs_run_of result ≡ sensor_fields «data».now start.at (output_tags (number_of kind)) }
+fn read_outputs(start: Cursor<'_>, kind: Kind) -> Result<(Outputs, Cursor<'_>), Refusal>
+    ensures { RunOf start.entry (λ bytes at. sensor_fields bytes at (output_tags (number_of kind))) outputs_in result }
 {
-    let output = start.sensor(data, 7)?;
+    let output = start.sensor(7)?;
     if let Kind::Measured = kind {
-        return Ok(Run {
-            value: Outputs {
-                output: output.value,
-                right: None,
-            },
-            next: output.next,
-        });
-    }
-    let right = output.next.sensor(data, 9)?;
-    Ok(Run {
-        value: Outputs {
+        let outputs = Outputs {
             output: output.value,
-            right: Some(right.value),
-        },
-        next: right.next,
-    })
+            right: None,
+        };
+        return Ok((outputs, output.next));
+    }
+    let right = output.next.sensor(9)?;
+    let outputs = Outputs {
+        output: output.value,
+        right: Some(right.value),
+    };
+    Ok((outputs, right.next))
 }
 
 // The tag of the rows. It answers for any number, and a `Kind` would ask more of a caller.
@@ -205,56 +192,46 @@ fn rows_length(kind: Kind, points: usize) -> usize
 // From tag 6 on, for so many points.
 #[tactic(auto, unfolding(crate::specs::Component::measured_fields))]
 fn read_measured(
-    data: &[u8],
-    start: Cursor,
+    start: Cursor<'_>,
     kind: Kind,
     points: usize,
-) -> Result<Run<Measured<'_>>, Refusal>
+) -> Result<(Measured<'_>, Cursor<'_>), Refusal>
     requires { points ≤ 2048 }
-    ensures answer { outcome_as measured_run_of result ≡ measured_fields «data».now start.at (number_of kind) points }
-    ensures rows_within { IfOk result (λ run. RowsWithin (length «data».now) run.value.rows) }
+    ensures answer { RunOf start.entry (λ bytes at. measured_fields bytes at (number_of kind) points) measured_in result }
+    ensures rows_within { IfOk result (λ run. RowsWithin (length start.entry.data.now) run.0.rows) }
 {
-    let input = start.sensor(data, 6)?;
-    let outputs = read_outputs(data, input.next, kind)?;
+    let input = start.sensor(6)?;
+    let (outputs, next) = read_outputs(input.next, kind)?;
     let allowed = Allowed::Exactly(rows_length(kind, points));
-    let rows = outputs.next.field(data, rows_tag(kind.number()), allowed)?;
-    Ok(Run {
-        value: Measured {
-            input: input.value,
-            output: outputs.value.output,
-            right: outputs.value.right,
-            rows: Rows {
-                start: rows.start,
-                bytes: rows.body,
-            },
+    let rows = next.field(rows_tag(kind.number()), allowed)?;
+    let measured = Measured {
+        input: input.value,
+        output: outputs.output,
+        right: outputs.right,
+        rows: Rows {
+            start: rows.start,
+            bytes: rows.value,
         },
-        next: rows.next,
-    })
+    };
+    Ok((measured, rows.next))
 }
 
 // What follows the axes.
 #[tactic(auto, unfolding(crate::specs::Component::kind_fields))]
 fn read_kind(
-    data: &[u8],
-    start: Cursor,
+    start: Cursor<'_>,
     kind: Kind,
     points: usize,
-) -> Result<Run<Option<Measured<'_>>>, Refusal>
+) -> Result<(Option<Measured<'_>>, Cursor<'_>), Refusal>
     requires { points ≤ 2048 }
-    ensures answer { outcome_as kind_run_of result ≡ kind_fields «data».now start.at (number_of kind) points }
-    ensures rows_within { IfOk result (λ run. IfSome run.value (λ m. RowsWithin (length «data».now) m.rows)) }
+    ensures answer { RunOf start.entry (λ bytes at. kind_fields bytes at (number_of kind) points) kind_in result }
+    ensures rows_within { IfOk result (λ run. IfSome run.0 (λ m. RowsWithin (length start.entry.data.now) m.rows)) }
 {
     if let Kind::Standard = kind {
-        return Ok(Run {
-            value: None,
-            next: start,
-        });
+        return Ok((None, start));
     }
-    let measured = read_measured(data, start, kind, points)?;
-    Ok(Run {
-        value: Some(measured.value),
-        next: measured.next,
-    })
+    let (measured, next) = read_measured(start, kind, points)?;
+    Ok((Some(measured), next))
 }
 
 // Reads the fields in their order; then nothing may follow.
@@ -262,18 +239,18 @@ fn read_kind(
 pub fn read(data: &[u8]) -> Result<Component<'_>, Refusal>
     ensures { Reads «data».now result }
 {
-    let axle = read_axle(data, Cursor { at: 0 })?;
-    let axes = read_axes(data, axle.next)?;
-    let points = axes.value.speeds.count * axes.value.torques.count;
-    let measured = read_kind(data, axes.next, axle.value.kind, points)?;
-    let end = measured.next.at;
+    let (axle, next) = read_axle(Cursor { data, at: 0 })?;
+    let (grid, next) = read_axes(next)?;
+    let points = grid.speeds.count * grid.torques.count;
+    let (measured, next) = read_kind(next, axle.kind, points)?;
+    let end = next.at;
     if end < data.len() {
         return Err(Refusal::TrailingBytes(end));
     }
     Ok(Component {
-        line: axle.value.line,
-        ratio: axle.value.ratio,
-        grid: axes.value,
-        measured: measured.value,
+        line: axle.line,
+        ratio: axle.ratio,
+        grid,
+        measured,
     })
 }

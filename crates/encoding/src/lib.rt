@@ -5,7 +5,7 @@ ghost use Rattle.std.specs.Prelude.{ℕ, List, ◌≡◌, [], ◌∷◌, ◌+◌
 ghost use Rattle.std.specs.List.{flat_map};
 ghost use Rattle.refusal.specs.Outcome.{accepted};
 ghost use Rattle.component.specs.Component.{sensor_tags};
-ghost use Rattle.component.specs.Answers.{outputs_of};
+ghost use Rattle.component.specs.Answers.{number_of, outputs_of};
 ghost use Rattle.layout.specs.Layout.{two_bytes, four_bytes, field_bytes, sensor_bytes, measured_bytes, layout};
 ghost use Rattle.layout.specs.Length.{longest};
 ghost use Rattle.numbers.specs.Check.{numbers_check};
@@ -13,6 +13,7 @@ ghost use Rattle.numbers.specs.Says.{says};
 ghost use Rattle.buffer.specs.Written.{HasRoom, Appends};
 
 use buffer::Writer;
+use component::Kind;
 use numbers::Numbers;
 
 // A number of a field, which stands there as so many bytes, the most significant first.
@@ -88,30 +89,33 @@ fn write_field<T: FieldNumber>(tag: u8, numbers: &[T], file: &mut Writer)
 }
 
 // The sensors of a measured kind.
-fn write_sensors(numbers: &Numbers, file: &mut Writer)
-    requires { HasRoom 63 file.old }
+fn write_sensors(numbers: &Numbers, kind: Kind, file: &mut Writer)
+    requires measured { 2 ≤ number_of kind }
+    requires room { HasRoom 63 file.old }
     ensures sensors { Appends
-        (sensor_bytes (sensor_tags numbers.now.kind) (numbers.now.input ∷ outputs_of numbers.now.kind numbers.now.output numbers.now.right))
+        (sensor_bytes (sensor_tags (number_of kind)) (numbers.now.input ∷ outputs_of (number_of kind) numbers.now.output numbers.now.right))
         file.old file.new }
     ensures at_most { file.new.at ≤ file.old.at + 63 }
 {
     write_field(6, &numbers.input.numbers(), file);
     write_field(7, &numbers.output.numbers(), file);
-    if numbers.kind != 2 {
+    if let Kind::HalfShafts = kind {
         write_field(9, &numbers.right.numbers(), file);
     }
 }
 
-// From tag 6 on; data of kind 1 ends there. The sensors take at most 63 bytes, and the rows 24,579.
-fn write_measured(numbers: &Numbers, rows: &[u32], file: &mut Writer)
+// From tag 6 on; standard data ends there. The sensors take at most 63 bytes, and the rows 24,579.
+fn write_measured(numbers: &Numbers, kind: Kind, rows: &[u32], file: &mut Writer)
+    requires kind { number_of kind ≡ numbers.now.kind }
     requires passed { numbers_check numbers.now (length rows.now) ≡ accepted tt }
     requires room { HasRoom 24642 file.old }
     ensures { Appends (measured_bytes (says numbers.now rows.now).kind) file.old file.new }
 {
-    if numbers.kind != 1 {
-        write_sensors(numbers, file);
-        write_field(component::rows_tag(numbers.kind), rows, file);
+    if let Kind::Standard = kind {
+        return;
     }
+    write_sensors(numbers, kind, file);
+    write_field(component::rows_tag(kind.number()), rows, file);
 }
 
 // Lays out numbers that passed their tests, with the torques of their rows.
@@ -120,11 +124,12 @@ pub fn encode(numbers: &Numbers, rows: &[u32], file: &mut Writer)
     requires room { HasRoom longest file.old }
     ensures { Appends (layout (says numbers.now rows.now)) file.old file.new }
 {
-    // the two casts fit, for the numbers have passed their tests
+    // there is one, for the numbers have passed their tests; so the two casts fit
+    let kind = Kind::from_number(numbers.kind).unwrap();
     write_field(1, &[numbers.kind as u8], file);
     write_field(2, &[numbers.line as u8], file);
     write_field(3, &[numbers.ratio], file);
     write_field(4, numbers.grid.speeds.counted_numbers(), file);
     write_field(5, numbers.grid.torques.counted_numbers(), file);
-    write_measured(numbers, rows, file);
+    write_measured(numbers, kind, rows, file);
 }

@@ -6,9 +6,9 @@ ghost use Rattle.refusal.specs.Table.{outcome_of, outcome_as};
 ghost use Rattle.fields.specs.Bytes.{number_of, pairs, between};
 ghost use Rattle.fields.specs.Field.{head, field, exactly, numbers as numbers_from, number, axis};
 ghost use Rattle.fields.specs.Sensor.{sensor};
-ghost use Rattle.fields.specs.Answers.{allowed_of, head_of, number_bytes, field_of, axis_field_of};
+ghost use Rattle.fields.specs.Answers.{allowed_of, head_of, number_bytes, field_of, Due, axis_field_of};
 
-use grid::{Axis, AxisFault, Range};
+use grid::{Axis, Range};
 use refusal::Refusal;
 use sensor::Sensor;
 
@@ -97,31 +97,39 @@ impl Width {
     }
 }
 
-// The reading place.
+// The reading place in data.
 #[derive(Clone, Copy)]
-pub struct Cursor {
+pub struct Cursor<'a> {
+    pub data: &'a [u8],
     pub at: usize,
 }
 
-// A field whose head is right and whose body is there: kind is the tag that was read, start the place of the body's first byte.
+// A field that was read: kind is the tag that stands there, value what its body says, start the place of the body's first byte,
+// and next the cursor past it.
 #[derive(Clone, Copy)]
-pub struct Found<'a> {
+pub struct Field<'a, T> {
     pub kind: u8,
-    pub start: usize,
-    pub body: &'a [u8],
-    pub next: Cursor,
-}
-
-// What a field says, the place of its body's first byte, and the cursor past it.
-#[derive(Clone, Copy)]
-pub struct Field<T> {
     pub value: T,
     pub start: usize,
-    pub next: Cursor,
+    pub next: Cursor<'a>,
+}
+
+impl<'a> Field<'a, &'a [u8]> {
+    // The same field, with what its body says in place of the body.
+    fn with_value<T>(self, value: T) -> Field<'a, T>
+        ensures { result ≡ record { kind = self.entry.kind; value = value; start = self.entry.start; next = self.entry.next } }
+    {
+        Field {
+            kind: self.kind,
+            value,
+            start: self.start,
+            next: self.next,
+        }
+    }
 }
 
 // Writes the numbers of an axis body to the first places of what is lent; place is where the body starts in the data,
-// apart from it here and below, for a struct of the two would be taken apart at once.
+// apart from it here and below, for a `Field` would be taken apart at once.
 fn read_numbers(body: &[u8], place: usize, range: Range, numbers: &mut [u16]) -> Result<(), Refusal>
     requires { (length body.now ≤ length numbers.old * 2) × (place + length body.now < 2 ^ 64) }
     ensures { outcome_as (λ nothing. take (length body.now / 2) numbers.new) result ≡ axis range body.now place }
@@ -129,10 +137,7 @@ fn read_numbers(body: &[u8], place: usize, range: Range, numbers: &mut [u16]) ->
     fill(body, numbers);
     match grid::check_axis(&numbers[..body.len() / 2], range) {
         Ok(()) => Ok(()),
-        Err(fault) => match fault {
-            AxisFault::OutOfRange(i) => Err(Refusal::OutOfRange(place + 2 * i)),
-            AxisFault::NotRising(i) => Err(Refusal::NotRising(place + 2 * i)),
-        },
+        Err(fault) => Err(fault.refusal(place + 2 * fault.index())),
     }
 }
 
@@ -149,12 +154,14 @@ fn read_sensor(body: &[u8], place: usize) -> Result<Sensor, Refusal>
     }
 }
 
-impl Cursor {
-    // The field that is due here.
-    pub fn field(self, data: &[u8], tag: u8, allowed: Allowed) -> Result<Found<'_>, Refusal>
-        ensures answer { outcome_as head_of result ≡ head «data».now self.at tag (allowed_of allowed) }
-        ensures body { IfOk result (λ found. found.body.now ≡ between «data».now found.start found.next.at) }
+impl<'a> Cursor<'a> {
+    // The field that is due here, with its body: its head is right, and the body is there.
+    pub fn field(self, tag: u8, allowed: Allowed) -> Result<Field<'a, &'a [u8]>, Refusal>
+        ensures answer { outcome_as head_of result ≡ head self.entry.data.now self.entry.at tag (allowed_of allowed) }
+        ensures due { IfOk result (λ field. Due self.entry tag field) }
+        ensures body { IfOk result (λ field. field.value.now ≡ between self.entry.data.now field.start field.next.at) }
     {
+        let data = self.data;
         let at = self.at;
         if data.len() <= at {
             return Err(Refusal::WrongTag(at));
@@ -175,68 +182,48 @@ impl Cursor {
             return Err(Refusal::Incomplete(at));
         }
         let end = start + length;
-        Ok(Found {
+        Ok(Field {
             kind,
+            value: &data[start..end],
             start,
-            body: &data[start..end],
-            next: Cursor { at: end },
+            next: Cursor { data, at: end },
         })
     }
 
     // The field of one number.
-    pub fn number(
-        self,
-        data: &[u8],
-        tag: u8,
-        width: Width,
-        range: Range,
-    ) -> Result<Field<u16>, Refusal>
-        ensures answer { outcome_as field_of result ≡ field «data».now self.at tag (exactly (number_bytes width)) (number range) }
+    pub fn number(self, tag: u8, width: Width, range: Range) -> Result<Field<'a, u16>, Refusal>
+        ensures answer { outcome_as field_of result ≡ field self.entry.data.now self.entry.at tag (exactly (number_bytes width)) (number range) }
+        ensures due { IfOk result (λ field. Due self.entry tag field) }
         ensures in_range { IfOk result (λ field. (range.lowest ≤ field.value) × (field.value ≤ range.highest)) }
     {
-        let found = self.field(data, tag, Allowed::Exactly(width.bytes()))?;
-        let value = number_of(found.body);
+        let found = self.field(tag, Allowed::Exactly(width.bytes()))?;
+        let value = number_of(found.value);
         if !range.contains(value) {
             return Err(Refusal::OutOfRange(found.start));
         }
-        Ok(Field {
-            value,
-            start: found.start,
-            next: found.next,
-        })
+        Ok(found.with_value(value))
     }
 
     // The field of an axis, of two numbers to as many as the axis has places.
-    pub fn axis<const N: usize>(
-        self,
-        data: &[u8],
-        tag: u8,
-        range: Range,
-    ) -> Result<Field<Axis<N>>, Refusal>
-        ensures answer { outcome_as axis_field_of result ≡ field «data».now self.at tag (numbers_from 2 N) (axis range) }
+    pub fn axis<const N: usize>(self, tag: u8, range: Range) -> Result<Field<'a, Axis<N>>, Refusal>
+        ensures answer { outcome_as axis_field_of result ≡ field self.entry.data.now self.entry.at tag (numbers_from 2 N) (axis range) }
+        ensures due { IfOk result (λ field. Due self.entry tag field) }
         ensures count_within { IfOk result (λ field. (2 ≤ field.value.count) × (field.value.count ≤ N)) }
     {
-        let found = self.field(data, tag, Allowed::Numbers(2, N))?;
+        let found = self.field(tag, Allowed::Numbers(2, N))?;
         let mut numbers = [0; N];
-        read_numbers(found.body, found.start, range, &mut numbers)?;
-        let count = found.body.len() / 2;
-        Ok(Field {
-            value: Axis { numbers, count },
-            start: found.start,
-            next: found.next,
-        })
+        read_numbers(found.value, found.start, range, &mut numbers)?;
+        let count = found.value.len() / 2;
+        Ok(found.with_value(Axis { numbers, count }))
     }
 
     // The field of a sensor.
-    pub fn sensor(self, data: &[u8], tag: u8) -> Result<Field<Sensor>, Refusal>
-        ensures { outcome_as field_of result ≡ field «data».now self.at tag (exactly 18) sensor }
+    pub fn sensor(self, tag: u8) -> Result<Field<'a, Sensor>, Refusal>
+        ensures answer { outcome_as field_of result ≡ field self.entry.data.now self.entry.at tag (exactly 18) sensor }
+        ensures due { IfOk result (λ field. Due self.entry tag field) }
     {
-        let found = self.field(data, tag, Allowed::Exactly(18))?;
-        let value = read_sensor(found.body, found.start)?;
-        Ok(Field {
-            value,
-            start: found.start,
-            next: found.next,
-        })
+        let found = self.field(tag, Allowed::Exactly(18))?;
+        let value = read_sensor(found.value, found.start)?;
+        Ok(found.with_value(value))
     }
 }

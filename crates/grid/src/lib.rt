@@ -2,11 +2,15 @@
 #![tactic(auto)]
 
 ghost use Rattle.std.specs.Prelude.{◌≡◌, ◌&&◌, ◌<◌, ◌≤◌, length, get_or};
+ghost use Rattle.refusal.specs.Outcome.{refusal};
+ghost use Rattle.refusal.specs.Table.{told};
 ghost use Rattle.grid.specs.Every.{every};
 ghost use Rattle.grid.specs.Axis.{within, rises, axis_numbers, first_step, valid_numbers};
 ghost use Rattle.grid.specs.Counted.{Counted};
-ghost use Rattle.grid.specs.Fault.{fault_of};
+ghost use Rattle.grid.specs.Fault.{fault_number, fault_index, fault_of};
 ghost use Rattle.grid.specs.Map.{counted_numbers, valid_speeds, valid_torques, valid_grid};
+
+use refusal::Refusal;
 
 // The numbers that a place of the data may hold, both ends among them.
 #[derive(Clone, Copy)]
@@ -87,6 +91,27 @@ pub enum AxisFault {
     OutOfRange(usize),
     // 5: it does not rise.
     NotRising(usize),
+}
+
+impl AxisFault {
+    // The number's index.
+    pub fn index(self) -> usize
+        ensures { result ≡ fault_index self }
+    {
+        match self {
+            AxisFault::OutOfRange(i) | AxisFault::NotRising(i) => i,
+        }
+    }
+
+    // Its refusal, told with a place.
+    pub fn refusal(self, place: usize) -> Refusal
+        ensures { told result ≡ refusal (fault_number self) place }
+    {
+        match self {
+            AxisFault::OutOfRange(_) => Refusal::OutOfRange(place),
+            AxisFault::NotRising(_) => Refusal::NotRising(place),
+        }
+    }
 }
 
 // Whether number i is above the one before; the first has none before it.

@@ -1,14 +1,15 @@
 // The numbers that a caller hands over to be written as component data, and the tests of them that come before those of the rows.
 #![tactic(auto)]
 
-ghost use Rattle.std.specs.Prelude.{◌≡◌, ◌∷◌, ◌≤◌};
+ghost use Rattle.std.specs.Prelude.{◌≡◌, ◌∷◌, ◌≤◌, IfOk};
 ghost use Rattle.refusal.specs.Outcome.{without_place};
-ghost use Rattle.refusal.specs.Table.{outcome_of};
+ghost use Rattle.refusal.specs.Table.{outcome_of, outcome_as};
 ghost use Rattle.sensor.specs.Sensor.{sensor_check, sensor_numbers};
-ghost use Rattle.component.specs.Answers.{outputs_of};
+ghost use Rattle.component.specs.Answers.{number_of, outputs_of};
 ghost use Rattle.numbers.specs.Check.{axle_check, axis_check, axes_check, sensors_check, measured_check, numbers_check};
 
-use grid::{Axis, AxisFault, Grid, Range};
+use component::Kind;
+use grid::{Axis, Grid, Range};
 use refusal::Refusal;
 use sensor::Sensor;
 
@@ -29,20 +30,22 @@ pub struct Numbers {
     pub right: Sensor,
 }
 
-#[tactic(auto, unfolding(crate::specs::Check::axle_check))]
-fn axle_check(numbers: &Numbers) -> Result<(), Refusal>
-    ensures { outcome_of result ≡ axle_check numbers.now.kind numbers.now.line numbers.now.ratio }
+// Tags 1 to 3, and the kind that the first one says.
+#[tactic(auto, using(component::proofs::KindNumbers::kind_within), unfolding(crate::specs::Check::axle_check))]
+fn axle_check(numbers: &Numbers) -> Result<Kind, Refusal>
+    ensures answer { outcome_as (λ kind. tt) result ≡ axle_check numbers.now.kind numbers.now.line numbers.now.ratio }
+    ensures kind { IfOk result (λ kind. number_of kind ≡ numbers.now.kind) }
 {
-    if !component::KINDS.contains(numbers.kind) {
+    let Some(kind) = Kind::from_number(numbers.kind) else {
         return Err(Refusal::OutOfRange(0));
-    }
+    };
     if !component::LINES.contains(numbers.line) {
         return Err(Refusal::OutOfRange(0));
     }
     if !component::RATIOS.contains(numbers.ratio) {
         return Err(Refusal::OutOfRange(0));
     }
-    Ok(())
+    Ok(kind)
 }
 
 fn axis_check<const N: usize>(axis: &Axis<N>, range: Range) -> Result<(), Refusal>
@@ -51,13 +54,7 @@ fn axis_check<const N: usize>(axis: &Axis<N>, range: Range) -> Result<(), Refusa
     let Some(numbers) = grid::counted(axis) else {
         return Err(Refusal::WrongLength(0));
     };
-    match grid::check_axis(numbers, range) {
-        Ok(()) => Ok(()),
-        Err(fault) => match fault {
-            AxisFault::OutOfRange(_) => Err(Refusal::OutOfRange(0)),
-            AxisFault::NotRising(_) => Err(Refusal::NotRising(0)),
-        },
-    }
+    grid::check_axis(numbers, range).map_err(|fault| fault.refusal(0))
 }
 
 #[tactic(auto, unfolding(crate::specs::Check::axes_check))]
@@ -83,12 +80,12 @@ fn sensor_check(sensor: Sensor) -> Result<(), Refusal>
 
 // The sensors of a measured kind.
 #[tactic(auto, unfolding(crate::specs::Check::sensors_check))]
-fn sensors_check(numbers: &Numbers) -> Result<(), Refusal>
-    ensures { outcome_of result ≡ sensors_check (numbers.now.input ∷ outputs_of numbers.now.kind numbers.now.output numbers.now.right) }
+fn sensors_check(numbers: &Numbers, kind: Kind) -> Result<(), Refusal>
+    ensures { outcome_of result ≡ sensors_check (numbers.now.input ∷ outputs_of (number_of kind) numbers.now.output numbers.now.right) }
 {
     sensor_check(numbers.input)?;
     sensor_check(numbers.output)?;
-    if numbers.kind == 2 {
+    if let Kind::Measured = kind {
         return Ok(());
     }
     sensor_check(numbers.right)
@@ -96,16 +93,17 @@ fn sensors_check(numbers: &Numbers) -> Result<(), Refusal>
 
 // The sensors, and how many torques the rows have: one of each sensor at each point.
 #[tactic(auto, unfolding(crate::specs::Check::measured_check))]
-fn measured_check(numbers: &Numbers, row_torque_count: usize) -> Result<(), Refusal>
-    requires { (numbers.now.grid.speeds.count ≤ 32) × (numbers.now.grid.torques.count ≤ 64) }
+fn measured_check(numbers: &Numbers, kind: Kind, row_torque_count: usize) -> Result<(), Refusal>
+    requires kind { number_of kind ≡ numbers.now.kind }
+    requires counts { (numbers.now.grid.speeds.count ≤ 32) × (numbers.now.grid.torques.count ≤ 64) }
     ensures { outcome_of result ≡ measured_check numbers.now row_torque_count }
 {
-    if numbers.kind == 1 {
+    if let Kind::Standard = kind {
         return Ok(());
     }
-    sensors_check(numbers)?;
+    sensors_check(numbers, kind)?;
     let points = numbers.grid.speeds.count * numbers.grid.torques.count;
-    if row_torque_count != usize::from(numbers.kind) * points {
+    if row_torque_count != usize::from(kind.number()) * points {
         return Err(Refusal::WrongLength(0));
     }
     Ok(())
@@ -116,7 +114,7 @@ fn measured_check(numbers: &Numbers, row_torque_count: usize) -> Result<(), Refu
 pub fn check(numbers: &Numbers, row_torque_count: usize) -> Result<(), Refusal>
     ensures { outcome_of result ≡ numbers_check numbers.now row_torque_count }
 {
-    axle_check(numbers)?;
+    let kind = axle_check(numbers)?;
     axes_check(&numbers.grid)?;
-    measured_check(numbers, row_torque_count)
+    measured_check(numbers, kind, row_torque_count)
 }

@@ -1,10 +1,17 @@
 -- `encoding::encode` meets its contract. Assumes nothing.
+use Rattle.std.proofs.lemmas.Bool.{some_since}
 use Rattle.grid.specs.Map.{counted_numbers}
+use Rattle.grid.proofs.AxisLaws.{not_in_range}
 use Rattle.layout.specs.Layout.{two_bytes, layout}
 use Rattle.numbers.proofs.Kept.{sizes, kind_said}
 use Rattle.buffer.proofs.Appending.{appends_then}
 use Rattle.encoding.proofs.Encoded.{flat_map_encoded}
 use Rattle.encoding.proofs.encode.Goals as goal
+
+pub unwrap-kind-requires : goal.unwrap-kind-requires
+unwrap-kind-requires c =
+    let passed = sizes c.args.numbers.now c.args.rows.now c.requires.passed in
+    some_since _ _ _ c.from_number.ensures (λ outside. not_in_range _ _ outside passed.kind)
 
 pub returns : goal.returns
 unfolding layout

@@ -3,5 +3,5 @@ use Rattle.std.proofs.Common.{sym}
 use Rattle.numbers.proofs.Checks.{counts_within}
 use Rattle.numbers.proofs.check.Goals as goal
 
-pub measured_check-requires : goal.measured_check-requires
-measured_check-requires c = counts_within _ (sym c.in_ok-axes_check.ensures)
+pub measured_check-requires-clause-counts : goal.measured_check-requires-clause-counts
+measured_check-requires-clause-counts c = counts_within _ (sym c.in_ok-axes_check.ensures)

@@ -21,9 +21,12 @@ returns-in_err-read_numbers-clause-answer g c =
 
 pub returns-clause-answer : goal.returns-clause-answer
 returns-clause-answer g c =
-    body_accepted _ _ _ _ _ _ c.in_ok-found.ensures.answer _ (rw (← c.in_ok-found.ensures.body) c.in_ok-read_numbers.ensures)
+    rw c.with_value.ensures (body_accepted _ _ _ _ _ _ c.in_ok-found.ensures.answer _ (rw (← c.in_ok-found.ensures.body) c.in_ok-read_numbers.ensures))
 
 pub returns-clause-count_within : goal.returns-clause-count_within
 returns-clause-count_within g c =
     let l = numbers_body _ _ _ _ _ c.in_ok-found.ensures.body 2 _ c.in_ok-found.ensures.answer in
-    (l.1, omega (arith, l.0))
+    rw c.with_value.ensures (l.1, omega (arith, l.0))
+
+pub returns-clause-due : goal.returns-clause-due
+returns-clause-due g c = rw c.with_value.ensures (record { tagged = c.in_ok-found.ensures.due.tagged; same_data = c.in_ok-found.ensures.due.same_data })

@@ -1,4 +1,4 @@
-use Rattle.std.proofs.Common.{sym, ◌∙◌}
+use Rattle.std.proofs.Common.{refl, sym, ◌∙◌}
 use Rattle.fields.proofs.Heads.{no_bytes, incomplete, other_tag, not_allowed, past_end, whole}
 use Rattle.fields.proofs.Cursor.field.Goals as goal
 
@@ -22,3 +22,6 @@ returns-then-data-start-clause-answer c =
 pub returns-clause-answer : goal.returns-clause-answer
 returns-clause-answer c =
     whole _ _ _ _ c.if-data-at.false c.if-data-at-lt3.false _ c.if-kind-tag.false (c.from-length.ensures ∙ c.number_of.ensures) (sym c.contains.ensures ∙ c.if-not-contains.false) c.if-data-start.false
+
+pub returns-clause-due : goal.returns-clause-due
+returns-clause-due c = record { tagged = c.if-kind-tag.false; same_data = refl }

@@ -23,8 +23,12 @@ returns-then-not-contains-clause-answer c =
 
 pub returns-clause-answer : goal.returns-clause-answer
 returns-clause-answer c =
-    body_accepted _ _ _ _ _ _ (rw c.bytes.ensures.answer at c.in_ok-found.ensures.answer) _
-    (number_accepted _ _ _ _ _ (rw c.in_ok-found.ensures.body at c.number_of-value.ensures) c.contains.ensures c.if-not-contains.false)
+    rw c.with_value.ensures
+    (body_accepted _ _ _ _ _ _ (rw c.bytes.ensures.answer at c.in_ok-found.ensures.answer) _
+    (number_accepted _ _ _ _ _ (rw c.in_ok-found.ensures.body at c.number_of-value.ensures) c.contains.ensures c.if-not-contains.false))
 
 pub returns-clause-in_range : goal.returns-clause-in_range
-returns-clause-in_range c = in_range _ _ (sym c.contains.ensures ∙ c.if-not-contains.false)
+returns-clause-in_range c = rw c.with_value.ensures (in_range _ _ (sym c.contains.ensures ∙ c.if-not-contains.false))
+
+pub returns-clause-due : goal.returns-clause-due
+returns-clause-due c = rw c.with_value.ensures (record { tagged = c.in_ok-found.ensures.due.tagged; same_data = c.in_ok-found.ensures.due.same_data })
