@@ -1,7 +1,7 @@
 // The loss at a point of a map, and the nearest grid point.
 #![tactic(auto)]
 
-ghost use Rattle.std.specs.Prelude.{◌≡◌, true, ℕ, ◌*◌, ◌<◌, ◌≤◌, length, slice_index, EachIndex, MatchOption};
+ghost use Rattle.std.specs.Prelude.{◌≡◌, true, ℕ, ◌*◌, ◌<◌, ◌≤◌, length, slice_index, EachIndex, MatchOption, ◌-◌, get_or};
 ghost use Rattle.refusal.specs.Table.{outcome_of};
 ghost use Rattle.grid.specs.Map.{counted_numbers, valid_map};
 ghost use Rattle.cell.specs.Cell.{Within};
@@ -20,19 +20,113 @@ pub struct GridPoint {
     pub torque: u16,
 }
 
+// The numbers of an axis, and how many units of a query each of them counts.
+#[derive(Clone, Copy)]
+struct ScaledAxis<'a> {
+    pub numbers: &'a [u16],
+    pub scale: u64,
+    pub ghost not_empty: { 0 < length numbers.now },
+    pub ghost fits: { scale ≤ 100 },
+}
+
+// Speeds, in tenths of rpm.
+fn speed_axis(numbers: &[u16]) -> ScaledAxis<'_>
+    requires { 0 < length numbers.now }
+    ensures numbers { result.numbers.now ≡ numbers.now }
+    ensures scale { result.scale ≡ 10 }
+{
+    ScaledAxis { numbers, scale: 10 }
+}
+
+// Torques, in hundredths of Nm.
+fn torque_axis(numbers: &[u16]) -> ScaledAxis<'_>
+    requires { 0 < length numbers.now }
+    ensures numbers { result.numbers.now ≡ numbers.now }
+    ensures scale { result.scale ≡ 100 }
+{
+    ScaledAxis {
+        numbers,
+        scale: 100,
+    }
+}
+
+impl ScaledAxis<'_> {
+    // Number i, in the units of a query.
+    fn at(&self, i: usize) -> u64
+        requires { i < length self.now.numbers.now }
+        ensures { result ≡ self.now.scale * get_or self.now.numbers.now i 0 }
+    {
+        self.scale * u64::from(self.numbers[i])
+    }
+
+    fn last(&self) -> u64
+        ensures { result ≡ self.now.scale * get_or self.now.numbers.now (length self.now.numbers.now - 1) 0 }
+    {
+        self.at(self.numbers.len() - 1)
+    }
+
+    // The index of the last number at or below v.
+    fn last_at_or_below(&self, v: u64) -> Option<usize>
+        ensures { MatchOption result
+            (EachIndex self.now.numbers.now (λ k. v < self.now.scale * slice_index self.now.numbers.now k))
+            (λ i. (i < length self.now.numbers.now) × (self.now.scale * slice_index self.now.numbers.now i ≤ v)
+            × ((k : ℕ) → i < k → k < length self.now.numbers.now → v < self.now.scale * slice_index self.now.numbers.now k)) }
+    {
+        self.numbers
+            .iter()
+            .rposition(|number| self.scale * u64::from(*number) <= v)
+    }
+
+    // The index of the lower neighbour of v: the last number at or below v, but for the last of all.
+    fn neighbour(&self, v: u64) -> usize
+        requires { 2 ≤ length self.now.numbers.now }
+        ensures { result ≡ neighbour self.now.numbers.now self.now.scale v }
+    {
+        let lower = ScaledAxis {
+            numbers: &self.numbers[..self.numbers.len() - 1],
+            scale: self.scale,
+        };
+        lower.last_at_or_below(v).unwrap_or(0)
+    }
+
+    // How far number i is from v.
+    fn distance(&self, i: usize, v: u64) -> u64
+        requires { i < length self.now.numbers.now }
+        ensures { result ≡ distance (self.now.scale * get_or self.now.numbers.now i 0) v }
+    {
+        self.at(i).abs_diff(v)
+    }
+
+    // The number that is nearest to v; the lower one where two are equally near. By `min_by_key` it takes 13 % longer.
+    fn nearest(&self, v: u64) -> u16
+        ensures { result ≡ nearest_number self.now.numbers.now self.now.scale v }
+    {
+        let mut nearest = 0;
+        let mut least = self.distance(0, v);
+        for i in 1..self.numbers.len() {
+            let d = self.distance(i, v);
+            if d < least {
+                nearest = i;
+                least = d;
+            }
+        }
+        self.numbers[nearest]
+    }
+}
+
 // The loss at a point in hundredths of Nm. 22 is tested first, then 20, then 21.
 #[tactic(auto, using(crate::proofs::Axes::counts), unfolding(crate::specs::Loss::loss_answer))]
 pub fn loss(grid: &Grid, entries: &[u32], point: Point) -> Result<i64, Refusal>
     ensures { outcome_of result ≡ loss_answer grid.now entries.now point }
 {
     let map = lent::tested_map(grid, entries)?;
-    let speeds = map.speeds();
-    let torques = map.torques();
+    let speeds = speed_axis(map.speeds());
+    let torques = torque_axis(map.torques());
     let speed = u64::from(point.speed);
-    if speed < 10 * u64::from(speeds[0]) || 10 * u64::from(speeds[speeds.len() - 1]) < speed {
+    if speed < speeds.at(0) || speeds.last() < speed {
         return Err(Refusal::SpeedOutside);
     }
-    if 100 * u64::from(torques[torques.len() - 1]) < u64::from(point.torque) {
+    if torques.last() < u64::from(point.torque) {
         return Err(Refusal::TorqueAbove);
     }
     Ok(loss_within(&map, point))
@@ -46,32 +140,10 @@ fn loss_within(map: &Map, point: Point) -> i64
         loss_at (counted_numbers map.now.grid.now.speeds) (counted_numbers map.now.grid.now.torques) map.now.entries.now
         point }
 {
-    let i = neighbour(map.speeds(), 10, u64::from(point.speed));
-    let j = neighbour(map.torques(), 100, u64::from(point.torque));
+    let i = speed_axis(map.speeds()).neighbour(u64::from(point.speed));
+    let j = torque_axis(map.torques()).neighbour(u64::from(point.torque));
     let cell = cell::cell_numbers(map.grid, map.entries, i, j);
     cell::interpolate(cell, point)
-}
-
-// The index of the lower neighbour of v among numbers that count scale each: the last at or below v, but for the last of all.
-fn neighbour(numbers: &[u16], scale: u64, v: u64) -> usize
-    requires two { 2 ≤ length numbers.now }
-    requires scaled { scale ≤ 100 }
-    ensures { result ≡ neighbour numbers.now scale v }
-{
-    last_at_or_below(&numbers[..numbers.len() - 1], scale, v).unwrap_or(0)
-}
-
-// The index of the last number, times scale, at or below v.
-fn last_at_or_below(numbers: &[u16], scale: u64, v: u64) -> Option<usize>
-    requires { scale ≤ 100 }
-    ensures { MatchOption result
-        (EachIndex numbers.now (λ k. v < scale * slice_index numbers.now k))
-        (λ i. (i < length numbers.now) × (scale * slice_index numbers.now i ≤ v)
-        × ((k : ℕ) → i < k → k < length numbers.now → v < scale * slice_index numbers.now k)) }
-{
-    numbers
-        .iter()
-        .rposition(|number| scale * u64::from(*number) <= v)
 }
 
 // The nearest grid point. 22 is tested for the axes; no entry is asked for.
@@ -82,37 +154,10 @@ pub fn nearest(grid: &Grid, point: Point) -> Result<GridPoint, Refusal>
     if !grid::grid_valid(grid) {
         return Err(Refusal::NotAMap);
     }
-    let speeds = grid.speeds.counted_numbers();
-    let torques = grid.torques.counted_numbers();
+    let speeds = speed_axis(grid.speeds.counted_numbers());
+    let torques = torque_axis(grid.torques.counted_numbers());
     Ok(GridPoint {
-        speed: nearest_number(speeds, 10, u64::from(point.speed)),
-        torque: nearest_number(torques, 100, u64::from(point.torque)),
+        speed: speeds.nearest(u64::from(point.speed)),
+        torque: torques.nearest(u64::from(point.torque)),
     })
-}
-
-// Of numbers that count scale each, the one that is nearest to v; the lower one where two are equally near. By `min_by_key`
-// it takes 13 % longer.
-fn nearest_number(numbers: &[u16], scale: u64, v: u64) -> u16
-    requires not_empty { 0 < length numbers.now }
-    requires scaled { scale ≤ 100 }
-    ensures { result ≡ nearest_number numbers.now scale v }
-{
-    let mut nearest = 0;
-    let mut least = distance(numbers[0], scale, v);
-    for i in 1..numbers.len() {
-        let d = distance(numbers[i], scale, v);
-        if d < least {
-            nearest = i;
-            least = d;
-        }
-    }
-    numbers[nearest]
-}
-
-// How far a number, times scale, is from v.
-fn distance(number: u16, scale: u64, v: u64) -> u64
-    requires { scale ≤ 100 }
-    ensures { result ≡ distance (scale * number) v }
-{
-    (scale * u64::from(number)).abs_diff(v)
 }

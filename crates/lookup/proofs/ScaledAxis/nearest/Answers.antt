@@ -1,11 +1,11 @@
--- `lookup::nearest_number` meets its contract. Assumes nothing.
+-- `lookup::ScaledAxis::nearest` meets its contract. Assumes nothing.
 use Rattle.std.proofs.Common.{◌≡◌, ℕ, ◌+◌, ◌*◌, ◌<◌, ◌≤◌, List, length, get_or, add-one, arith}
 use Rattle.std.proofs.lemmas.Grind.{common_steps}
 use Rattle.std.proofs.lemmas.Bool.Decides.{nat_tests}
 use borrow.Author.Tests.{lt-ltb, le-ltb}
 use Rattle.lookup.specs.Nearest.{distance, nearest_index, nearest_number}
-use Rattle.lookup.proofs.nearest_number.Goals as goal
-use Rattle.lookup.proofs.nearest_number.Goals.{then-d-least, else-d-least}
+use Rattle.lookup.proofs.ScaledAxis.nearest.Goals as goal
+use Rattle.lookup.proofs.ScaledAxis.nearest.Goals.{then-d-least, else-d-least}
 
 -- by the distances: d that of number i, least that of the best before it
 module _ (ns : List ℕ) (scale v i best d least : ℕ) (e : best ≡ nearest_index ns scale v i) (p : d ≡ distance (scale * get_or ns i 0) v) (q : least ≡ distance (scale * get_or ns best 0) v) where
@@ -31,4 +31,4 @@ loop-i-preserved c =
 
 pub returns : goal.returns
 unfolding nearest_number
-returns c = let e : c.loop-i.i ≡ length c.args.numbers.now = omega arith in rw (c.loop-i.invariant.1, e)
+returns c = let e : c.loop-i.i ≡ length c.args.self.now.numbers.now = omega arith in rw (c.loop-i.invariant.1, e)

@@ -1,9 +1,9 @@
--- `lookup::neighbour` meets its contract. Assumes nothing.
+-- `lookup::ScaledAxis::neighbour` meets its contract. Assumes nothing.
 use Rattle.std.proofs.Common.{◌≡◌, ℕ, ◌*◌, ◌-◌, ◌<◌, ◌≤◌, Option, Some, None, List, length, take, unwrap_or, MatchOption, EachIndex, slice_index, refl, sym, ◌∙◌, arith}
 use Rattle.std.proofs.lemmas.Grind.{common_steps}
 use Rattle.lookup.specs.Loss.{neighbour}
 use Rattle.lookup.proofs.Axes.{neighbour_is}
-use Rattle.lookup.proofs.neighbour.Goals as goal
+use Rattle.lookup.proofs.ScaledAxis.neighbour.Goals as goal
 
 -- by what was found in all but the last of the numbers
 found : (ns xs : List ℕ) (scale v : ℕ) (r : Option ℕ) → 2 ≤ length ns → xs ≡ take (length ns - 1) ns →
@@ -15,4 +15,4 @@ found ns xs scale v (Some i) two e h =
     neighbour_is ns scale v i (grind (arith, common_steps)) (λ l. grind (arith, common_steps)) (λ k a b. let m = h.2 k a (grind (arith, common_steps)) in grind (arith, common_steps))
 
 pub returns : goal.returns
-returns c = c.unwrap_or.ensures ∙ sym (found c.args.numbers.now _ _ _ _ c.requires.two refl c.last_at_or_below.ensures)
+returns c = c.unwrap_or.ensures ∙ sym (found c.args.self.now.numbers.now _ _ _ _ c.requires refl c.last_at_or_below.ensures)

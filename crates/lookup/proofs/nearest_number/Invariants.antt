@@ -1,8 +1,0 @@
--- `lookup::nearest_number` meets its contract. The invariant: the index is that of the nearest of the numbers passed, and least its distance. Assumes nothing.
-use Rattle.std.proofs.Common.{◌≡◌, ◌*◌, ◌<◌, length, get_or}
-use Rattle.lookup.specs.Nearest.{distance, nearest_index}
-use Rattle.lookup.proofs.nearest_number.Given as goal
-
-abbrev pub invariant-loop-i : goal.invariant-loop-i
-invariant-loop-i l =
-    (l.nearest < length l.numbers) × (l.nearest ≡ nearest_index l.numbers l.scale l.v l.i) × (l.least ≡ distance (l.scale * get_or l.numbers l.nearest 0) l.v)
