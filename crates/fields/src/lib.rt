@@ -38,21 +38,15 @@ fn number_of(bytes: &[u8]) -> u16
     }
 }
 
-// The number of the two bytes at a place. (An index, for it is no plainer to cut a part for each number.)
-fn pair_at(bytes: &[u8], at: usize) -> u16
-    requires { at + 2 ≤ length bytes.now }
-    ensures { result ≡ get_or bytes.now at 0 * 256 + get_or bytes.now (at + 1) 0 }
-{
-    pair(bytes[at], bytes[at + 1])
-}
-
 // Writes the numbers that a body says, two bytes each, to the first places of what is lent.
+#[tactic(auto, using(crate::proofs::Pairs::filled))]
 fn fill(body: &[u8], numbers: &mut [u16])
     requires { length body.now ≤ length numbers.old * 2 }
     ensures { numbers.new ≡ pairs body.now ++ drop (length body.now / 2) numbers.old }
 {
-    for i in 0..body.len() / 2 {
-        numbers[i] = pair_at(body, i * 2);
+    let (pairs, _) = body.as_chunks::<2>();
+    for (i, [high, low]) in pairs.iter().enumerate() {
+        numbers[i] = pair(*high, *low);
     }
 }
 
