@@ -1,7 +1,7 @@
 // The fields of component data. The cursor is a value, and each method returns the one past the field that it read.
 #![tactic(auto)]
 
-ghost use Rattle.std.specs.Prelude.{◌≡◌, ◌++◌, ◌+◌, ◌*◌, ◌/◌, ◌≤◌, ◌<◌, ◌^◌, length, get_or, take, drop, IfOk};
+ghost use Rattle.std.specs.Prelude.{◌≡◌, ◌++◌, ◌+◌, ◌*◌, ◌/◌, ◌≤◌, ◌<◌, ◌^◌, length, take, drop, IfOk};
 ghost use Rattle.refusal.specs.Table.{outcome_of, outcome_as};
 ghost use Rattle.fields.specs.Bytes.{number_of, pairs, between};
 ghost use Rattle.fields.specs.Field.{head, field, exactly, numbers as numbers_from, number, axis};
