@@ -38,7 +38,8 @@ fn number_of(bytes: &[u8]) -> u16
     }
 }
 
-// Writes the numbers that a body says, two bytes each, to the first places of what is lent.
+// Writes the numbers that a body says, two bytes each, to the first places of what is lent. By an index, for after
+// `numbers.iter_mut().zip(pairs)` a proof knows nothing of what was written.
 #[tactic(auto, using(crate::proofs::Pairs::filled))]
 fn fill(body: &[u8], numbers: &mut [u16])
     requires { length body.now ≤ length numbers.old * 2 }

@@ -9,7 +9,7 @@ pub fn timing_roots(numbers: &[u64], roots: &mut [u64])
     ensures { roots.new ≡ content numbers.now roots.old }
 {
     if numbers.len() <= roots.len() {
-        // (after `roots.iter_mut().zip(numbers)` a proof knows nothing of what was written)
+        // by an index, for after `roots.iter_mut().zip(numbers)` a proof knows nothing of what was written
         for (i, number) in numbers.iter().enumerate() {
             roots[i] = arith::root_up(*number);
         }
