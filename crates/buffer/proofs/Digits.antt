@@ -4,7 +4,9 @@ use mathlib.Core.Path.{◌≡◌, refl}
 use native.Mathlib.Omega.{arith}
 use native.Mathlib.Decide.{dec_lt}
 use native.Mathlib.Nat.{le_antisymm, pow-suc}
-use borrow.Author.Tests.{lt-ltb, le-ltb}
+use borrow.Author.Tests.{lt-ltb, le-ltb, le-leb, lt-leb}
+use mir.Val.{bool_byte}
+use lib.Dec.{leb}
 use lib.ListN.{length, length-append}
 use Rattle.buffer.specs.Digits.{last_digits, digit_count_by, digit_count, decimal, hundredths}
 
@@ -54,6 +56,29 @@ pub count_is : (k n : ℕ) → 10 ^ k ≤ max n 1 → n < 10 ^ suc k → digit_c
 unfolding digit_count
 count_is k n l h = le_antisymm (most_by n k n h) (least_by n k n (omega arith) l)
 
+-- a short one, as a sum of tests
+at_least : (k n : ℕ) → k ≤ n → bool_byte (leb k n) ≡ 1
+at_least k n h = rw (le-leb k n h)
+
+less : (k n : ℕ) → n < k → bool_byte (leb k n) ≡ 0
+less k n h = rw (lt-leb k n h)
+
+pub short_count : (n : ℕ) → n < 100000 → 1 + bool_byte (leb 10 n) + bool_byte (leb 100 n) + bool_byte (leb 1000 n) + bool_byte (leb 10000 n) ≡ digit_count n
+short_count n h =
+    elim (dec_lt n 10) [
+      | yes q ↦ omega (arith, less 10 n (omega arith), less 100 n (omega arith), less 1000 n (omega arith), less 10000 n (omega arith), count_is 0 n (omega arith) (omega arith))
+      | no p ↦ elim (dec_lt n 100) [
+        | yes q ↦ omega (arith, at_least 10 n (omega arith), less 100 n (omega arith), less 1000 n (omega arith), less 10000 n (omega arith), count_is 1 n (omega arith) (omega arith))
+        | no p2 ↦ elim (dec_lt n 1000) [
+          | yes q ↦ omega (arith, at_least 10 n (omega arith), at_least 100 n (omega arith), less 1000 n (omega arith), less 10000 n (omega arith), count_is 2 n (omega arith) (omega arith))
+          | no p3 ↦ elim (dec_lt n 10000) [
+            | yes q ↦ omega (arith, at_least 10 n (omega arith), at_least 100 n (omega arith), at_least 1000 n (omega arith), less 10000 n (omega arith), count_is 3 n (omega arith) (omega arith))
+            | no p4 ↦ omega (arith, at_least 10 n (omega arith), at_least 100 n (omega arith), at_least 1000 n (omega arith), at_least 10000 n (omega arith), count_is 4 n (omega arith) (omega arith))
+          ]
+        ]
+      ]
+    ]
+
 -- ---- the digits
 pub length_digits : (count n : ℕ) → length (last_digits count n) ≡ count
 length_digits zero n = refl
@@ -66,3 +91,8 @@ length_decimal n = length_digits (digit_count n) n
 pub length_hundredths : (n : ℕ) → length (hundredths n) ≡ digit_count (n / 100) + 3
 unfolding hundredths
 length_hundredths n = simp length-append (omega (arith, length_decimal (n / 100)))
+
+-- the same of the digits
+pub decimal_is : (k n : ℕ) → 10 ^ k ≤ max n 1 → n < 10 ^ suc k → last_digits (suc k) n ≡ decimal n
+unfolding decimal
+decimal_is k n l h = rw (count_is k n l h) refl

@@ -5,19 +5,19 @@ ghost use Rattle.std.specs.Prelude.{◌≡◌, [], ◌∷◌, ◌≤◌, length}
 ghost use Rattle.buffer.specs.Digits.{last_digits, digit_count, decimal, hundredths};
 ghost use Rattle.buffer.specs.Written.{HasRoom, Appends};
 
-// How many digits a number has. The short ones, which a listing is made of, are told by comparing alone. (No `From` makes
-// a `u32` a `usize`.)
+// How many digits a number has. Those of a short one are a sum of tests: a branch on each is slower in a listing, for how
+// many digits its losses have goes up and down. (No `From` makes a `u32` a `usize`.)
 pub fn digit_count(n: usize) -> usize
     ensures answer { result ≡ digit_count n }
     ensures at_most { result ≤ 20 }
 {
-    match n {
-        0..=9 => 1,
-        10..=99 => 2,
-        100..=999 => 3,
-        1_000..=9_999 => 4,
-        10_000..=99_999 => 5,
-        _ => n.ilog10() as usize + 1,
+    if n < 100_000 {
+        1 + usize::from(10 <= n)
+            + usize::from(100 <= n)
+            + usize::from(1_000 <= n)
+            + usize::from(10_000 <= n)
+    } else {
+        n.ilog10() as usize + 1
     }
 }
 
@@ -48,7 +48,8 @@ impl Writer<'_> {
         self.at = end;
     }
 
-    // Writes the last count digits of n. The cast is of a digit, and fits.
+    // Writes the last count digits of n. The cast is of a digit, and fits. By an index, for after `iter_mut().rev()` a proof
+    // knows nothing of what was written.
     fn digits(&mut self, n: usize, count: usize)
         requires { HasRoom count self.old }
         ensures { Appends (last_digits count n) self.old self.new }
@@ -63,19 +64,20 @@ impl Writer<'_> {
         self.at = end;
     }
 
-    // Writes a number in decimal digits. Each short count is a constant of its own, so that no loop is left there.
+    // Writes a number in decimal digits. Each short count is a constant, so that no loop is left there, and told by the number
+    // itself, for a branch on the sum of tests is slower.
     #[tactic(auto, using(crate::proofs::Digits::length_digits), unfolding(crate::specs::Digits::decimal))]
     pub fn decimal(&mut self, n: usize)
         requires { HasRoom (length (decimal n)) self.old }
         ensures { Appends (decimal n) self.old self.new }
     {
-        match digit_count(n) {
-            1 => self.digits(n, 1),
-            2 => self.digits(n, 2),
-            3 => self.digits(n, 3),
-            4 => self.digits(n, 4),
-            5 => self.digits(n, 5),
-            count => self.digits(n, count),
+        match n {
+            0..=9 => self.digits(n, 1),
+            10..=99 => self.digits(n, 2),
+            100..=999 => self.digits(n, 3),
+            1_000..=9_999 => self.digits(n, 4),
+            10_000..=99_999 => self.digits(n, 5),
+            _ => self.digits(n, digit_count(n)),
         }
     }
 

@@ -1,7 +1,7 @@
 // The fields of component data. The cursor is a value, and each method returns the one past the field that it read.
 #![tactic(auto)]
 
-ghost use Rattle.std.specs.Prelude.{◌≡◌, ◌++◌, ◌+◌, ◌*◌, ◌/◌, ◌≤◌, ◌<◌, ◌^◌, length, get_or, take, drop, IfOk};
+ghost use Rattle.std.specs.Prelude.{◌≡◌, ◌++◌, ◌+◌, ◌*◌, ◌/◌, ◌≤◌, ◌<◌, ◌^◌, length, take, drop, IfOk};
 ghost use Rattle.refusal.specs.Table.{outcome_of, outcome_as};
 ghost use Rattle.fields.specs.Bytes.{number_of, pairs, between};
 ghost use Rattle.fields.specs.Field.{head, field, exactly, numbers as numbers_from, number, axis};
@@ -38,21 +38,16 @@ fn number_of(bytes: &[u8]) -> u16
     }
 }
 
-// The number of the two bytes at a place. (An index, for it is no plainer to cut a part for each number.)
-fn pair_at(bytes: &[u8], at: usize) -> u16
-    requires { at + 2 ≤ length bytes.now }
-    ensures { result ≡ get_or bytes.now at 0 * 256 + get_or bytes.now (at + 1) 0 }
-{
-    pair(bytes[at], bytes[at + 1])
-}
-
-// Writes the numbers that a body says, two bytes each, to the first places of what is lent.
+// Writes the numbers that a body says, two bytes each, to the first places of what is lent. By an index, for after
+// `numbers.iter_mut().zip(pairs)` a proof knows nothing of what was written.
+#[tactic(auto, using(crate::proofs::Pairs::filled))]
 fn fill(body: &[u8], numbers: &mut [u16])
     requires { length body.now ≤ length numbers.old * 2 }
     ensures { numbers.new ≡ pairs body.now ++ drop (length body.now / 2) numbers.old }
 {
-    for i in 0..body.len() / 2 {
-        numbers[i] = pair_at(body, i * 2);
+    let (pairs, _) = body.as_chunks::<2>();
+    for (i, [high, low]) in pairs.iter().enumerate() {
+        numbers[i] = pair(*high, *low);
     }
 }
 

@@ -51,13 +51,14 @@ fn row_length(speed: u16, torques: &[u16], losses: &[u32]) -> usize
     ensures { (result ≡ length (row speed torques.now (length torques.now) losses.now 0)) × (result ≤ 4224) }
 {
     let mut total = 0;
-    for (j, torque) in torques.iter().enumerate() {
-        total += line_length(speed, *torque, losses[j]);
+    for (torque, loss) in torques.iter().zip(losses) {
+        total += line_length(speed, *torque, *loss);
     }
     total
 }
 
-// Writes the lines of one speed.
+// Writes the lines of one speed. By an index: over `torques.iter().zip(losses)` a listing takes up to 16 % longer, by where
+// its code lies.
 fn write_row(speed: u16, torques: &[u16], losses: &[u32], text: &mut Writer)
     requires enough { length torques.now ≤ length losses.now }
     requires room { HasRoom (length (row speed torques.now (length torques.now) losses.now 0)) text.old }

@@ -1,11 +1,12 @@
 -- A sensor's parts and its uncertainty: the law of U, their bounds, and the steps as the code makes them. Assumes nothing.
 use Prim.Native.Nat.{ℕ, ◌*◌, ◌≤◌, ◌<◌}
-use mathlib.Core.Path.{◌≡◌}
+use mathlib.Core.Path.{◌≡◌, refl, sym, subst, ◌∙◌}
 use native.Mathlib.Omega.{arith}
 use native.Mathlib.Nat.{mul-le-mul}
-use mathlib.Core.List.{List}
-use lib.ListN.{length, drop}
-use Rattle.std.proofs.lemmas.List.{at_drop_all}
+use mathlib.Core.List.{List, [], ◌∷◌}
+use lib.ListN.{length, get_or}
+use Rattle.std.specs.List.{sum_by}
+use Rattle.std.proofs.lemmas.List.Sums.{sum_by-cons, get_or-le-sum_by}
 use Rattle.arith.specs.Quotient.{quotient_up, quotient_up_law, quotient_up_least}
 use Rattle.arith.specs.Root.{root_up}
 use Rattle.arith.proofs.Squares.{square_at_most}
@@ -67,8 +68,14 @@ pub scaled_by_one : (U : ℕ) → scaled_uncertainty 1000 U ≡ U
 unfolding scaled_uncertainty
 scaled_by_one U = let u = quotient_up_law (U * 1000) 1000 (omega arith) in omega (arith, u.not_below, u.near)
 
-pub no_square_left : (vs : List ℕ) (i : ℕ) → length vs ≤ i → sum_of_squares (drop i vs) ≡ 0
-no_square_left vs i h = at_drop_all sum_of_squares vs i h
+-- the sum of the squares, as a sum over the list
+pub squares_are : (vs : List ℕ) → sum_by (λ v. v * v) vs ≡ sum_of_squares vs
+squares_are [] = refl
+squares_are (v ∷ vs) = sum_by-cons (λ v. v * v) v vs ∙ rw (squares_are vs) refl
+
+pub square_within : (vs : List ℕ) (i v : ℕ) → i < length vs → v ≡ get_or vs i v → v * v ≤ sum_of_squares vs
+square_within vs i v h e =
+    rw (← squares_are vs) (subst (λ w. w * w ≤ sum_by (λ v. v * v) vs) (sym e) (get_or-le-sum_by (λ v. v * v) vs i v h))
 
 pub root_at_most : (n most : ℕ) → n ≤ most * most → root_up n ≤ most
 root_at_most n most h = (root_up_law n).least most h

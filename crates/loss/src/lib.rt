@@ -205,17 +205,13 @@ pub fn scaled_uncertainty(factor: u16, uncertainty: u32) -> u64
 }
 
 // The loss uncertainty in grains: the root of the sum of the squares, rounded up.
-#[tactic(auto, using(crate::proofs::Parts::no_square_left, crate::proofs::Parts::root_at_most), unfolding(crate::specs::Measured::loss_uncertainty))]
+#[tactic(auto, using(crate::proofs::Parts::root_at_most), unfolding(crate::specs::Measured::loss_uncertainty))]
 pub fn loss_uncertainty(parts: &[u64]) -> u64
     requires { sum_of_squares parts.now < 2 ^ 64 }
     ensures uncertainty { result ≡ loss_uncertainty parts.now }
     ensures bound { result ≤ 4294967296 }
 {
-    let mut sum: u64 = 0;
-    for part in parts {
-        sum += part * part;
-    }
-    arith::root_up(sum)
+    arith::root_up(parts.iter().map(|part| part * part).sum())
 }
 
 // The measured loss of a row: input torque times the ratio, less the output torque; nothing where that is under zero.

@@ -1,29 +1,66 @@
 -- A sensor's numbers: one number in its range or out of it, and the index of the first that is out of it. Assumes nothing.
 use Prim.Native.Nat.{ℕ, zero, suc, ◌+◌, ◌<◌, zero-le}
-use mathlib.Core.Path.{◌≡◌, sym, ap}
-use mathlib.Core.Bool.{Bool, true, false}
+use mathlib.Core.Path.{◌≡◌, refl, sym, ap, ◌∙◌}
+use mathlib.Core.Bool.{Bool, true, false, not, cond}
 use mathlib.Core.List.{List, [], ◌∷◌}
 use native.Mathlib.Omega.{arith}
+use native.Mathlib.Decide.{dec_lt}
+use lib.Dec.{ltb}
 use lib.ListN.{length, get_or, drop}
 use lib.Seq.{drop-cons, drop-length}
+use Rattle.std.specs.Prelude.{Some, None}
+use Rattle.std.specs.List.{position, position_or_len, zip}
+use Rattle.std.proofs.lemmas.Bool.{lt-ltb, le-ltb, not-true, not-false}
+use Rattle.std.proofs.lemmas.List.Sums.{fails_before_first, passes_at_first}
+use Rattle.std.proofs.lemmas.Slice.Zip.{length-zip, get_or-zip}
 use Rattle.refusal.specs.Outcome.{Told, accepted, refuse, first_refusal}
 use Rattle.refusal.proofs.Steps.{require_accepted, require_refused}
-use Rattle.refusal.proofs.First.{first_all, first_found}
+use Rattle.refusal.proofs.First.{first_all, first_found, first_of, first_refused}
 use Rattle.grid.specs.Axis.{within, ◌to◌}
 use Rattle.grid.specs.Rules.{InRange}
 use Rattle.grid.specs.declared.Range.{Range}
 use Rattle.grid.proofs.AxisLaws.{in_range, within_range}
 use Rattle.sensor.specs.Sensor.{sensor_ranges, SensorRules, sensor_number_check, sensor_check, sensor_of, sensor_numbers}
+use Rattle.sensor.specs.Fault.{sensor_fault_of}
 use Rattle.sensor.specs.declared.Sensor.{Sensor}
 
-module _ (ns : List ℕ) (i : ℕ) (range : Range) (b : Bool) (r : range ≡ get_or sensor_ranges i (0 to 0)) (e : b ≡ within range (get_or ns i 0)) where
-  pub number_inside : b ≡ true → sensor_number_check ns i ≡ accepted tt
-  unfolding sensor_number_check
-  number_inside t = rw (← r, ← e, t)
+-- a number beside its range, which it is not in
+abbrev pub outside : ℕ × Range → Bool
+outside pair = not (within pair.1 pair.0)
 
-  pub number_outside : b ≡ false → sensor_number_check ns i ≡ refuse 4 i
+module _ (ns : List ℕ) (nine : length ns ≡ 9) where
+  pairs : List (ℕ × Range)
+  pairs = zip ns sensor_ranges
+
+  nine_pairs : length pairs ≡ 9
+  unfolding pairs
+  nine_pairs = length-zip ns sensor_ranges ∙ rw nine refl
+
+  pair_at : (i : ℕ) → i < 9 → outside (get_or pairs i (0, 0 to 0)) ≡ not (within (get_or sensor_ranges i (0 to 0)) (get_or ns i 0))
+  unfolding pairs
+  pair_at i l = ap outside (get_or-zip ns sensor_ranges i (0, 0 to 0) (omega arith) (omega arith))
+
+  inside : (i : ℕ) → i < 9 → outside (get_or pairs i (0, 0 to 0)) ≡ false → sensor_number_check ns i ≡ accepted tt
   unfolding sensor_number_check
-  number_outside t = rw (← r, ← e, t)
+  inside i l e = rw (not-false _ (sym (pair_at i l) ∙ e))
+
+  refused_at : (i : ℕ) → i < 9 → outside (get_or pairs i (0, 0 to 0)) ≡ true → sensor_number_check ns i ≡ refuse 4 i
+  unfolding sensor_number_check
+  refused_at i l e = rw (not-true _ (sym (pair_at i l) ∙ e))
+
+  at_first : (i : ℕ) → ((k : ℕ) → k < i → k < 9 → sensor_number_check ns k ≡ accepted tt) → (i < 9 → sensor_number_check ns i ≡ refuse 4 i) → Dec (i < 9)
+      → sensor_fault_of (cond (ltb i 9) (Some i) None) ≡ sensor_check ns
+  unfolding sensor_check
+  at_first i passed stops (yes l) = rw (lt-ltb i 9 l) (sym (first_refused (sensor_number_check ns) 9 i _ l (λ k q. passed k q (omega arith)) (stops l)))
+  at_first i passed stops (no l) = rw (le-ltb i 9 (omega arith)) (sym (first_of (sensor_number_check ns) 9 (λ k q. passed k (omega arith) q)))
+
+  -- the index of the first number that is not in its range is what the check of all says
+  pub first_outside : sensor_fault_of (position outside (zip ns sensor_ranges)) ≡ sensor_check ns
+  unfolding pairs
+  first_outside = rw nine_pairs (at_first (position_or_len outside pairs)
+      (λ k q l. inside k l (fails_before_first outside pairs k _ q))
+      (λ l. refused_at _ l (passes_at_first outside pairs _ (rw nine_pairs l)))
+      (dec_lt _ _))
 
 -- the index of a number out of its range is one of the nine
 pub index_below : (ns : List ℕ) (i : ℕ) → refuse 4 i ≡ sensor_check ns → i < 9

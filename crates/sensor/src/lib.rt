@@ -1,9 +1,8 @@
 // The torque sensors of tags 6, 7 and 9: their nine numbers and ranges.
 #![tactic(auto)]
 
-ghost use Rattle.std.specs.Prelude.{◌≡◌, ◌<◌, get_or};
-ghost use Rattle.grid.specs.Axis.{◌to◌};
-ghost use Rattle.sensor.specs.Sensor.{sensor_ranges, sensor_check, sensor_of, sensor_numbers};
+ghost use Rattle.std.specs.Prelude.{◌≡◌};
+ghost use Rattle.sensor.specs.Sensor.{sensor_check, sensor_of, sensor_numbers};
 ghost use Rattle.sensor.specs.Fault.{sensor_fault_of};
 
 use grid::Range;
@@ -71,24 +70,14 @@ const RANGES: [Range; 9] = [
     },
 ];
 
-// The range of a number, by its index.
-fn range_at(i: usize) -> Range
-    requires { i < 9 }
-    ensures { result ≡ get_or sensor_ranges i (0 to 0) }
-{
-    RANGES[i]
-}
-
 // The index of the first number that is outside its range, left to right.
 pub fn sensor_fault(numbers: &[u16; 9]) -> Option<usize>
     ensures { sensor_fault_of result ≡ sensor_check numbers.now }
 {
-    for i in 0..numbers.len() {
-        if !range_at(i).contains(numbers[i]) {
-            return Some(i);
-        }
-    }
-    None
+    numbers
+        .iter()
+        .zip(&RANGES)
+        .position(|(number, range)| !range.contains(*number))
 }
 
 impl From<[u16; 9]> for Sensor {

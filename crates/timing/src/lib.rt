@@ -9,8 +9,9 @@ pub fn timing_roots(numbers: &[u64], roots: &mut [u64])
     ensures { roots.new ≡ content numbers.now roots.old }
 {
     if numbers.len() <= roots.len() {
-        for i in 0..numbers.len() {
-            roots[i] = arith::root_up(numbers[i]);
+        // by an index, for after `roots.iter_mut().zip(numbers)` a proof knows nothing of what was written
+        for (i, number) in numbers.iter().enumerate() {
+            roots[i] = arith::root_up(*number);
         }
     }
 }

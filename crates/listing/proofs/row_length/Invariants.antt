@@ -4,5 +4,6 @@ use Rattle.grid.specs.Lists.{joined}
 use Rattle.listing.specs.Listing.{line_at}
 use Rattle.listing.proofs.row_length.Given as goal
 
-abbrev pub invariant-loop-j : goal.invariant-loop-j
-invariant-loop-j l = (l.total ≤ 66 * l.j) × (l.total ≡ length (joined (line_at l.speed l.torques l.losses 0) l.j))
+abbrev pub invariant-loop-torque : goal.invariant-loop-torque
+invariant-loop-torque l =
+    (l.total ≤ 66 * length l.yielded) × (l.total ≡ length (joined (line_at l.speed l.torques l.losses 0) (length l.yielded)))

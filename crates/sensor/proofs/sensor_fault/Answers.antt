@@ -1,21 +1,12 @@
--- `sensor::sensor_fault` meets its contract. The invariant: the outcome of all numbers is that of the numbers from i on. Assumes nothing.
-use Rattle.std.proofs.Common.{refl, sym, ◌∙◌}
-use Rattle.refusal.proofs.First.{first_none, first_more, first_stops}
-use Rattle.sensor.specs.Sensor.{sensor_check}
-use Rattle.sensor.proofs.Sensors.{number_inside, number_outside}
+-- `sensor::sensor_fault` meets its contract: the position that it answers is that of the first pair whose number is outside its range. Assumes nothing.
+use Rattle.std.proofs.Common.{rules, tests}
+use Rattle.std.proofs.lemmas.Iterator.{YieldsList-from_slice, YieldsList-from_zip}
+use Rattle.std.proofs.lemmas.Iterator.Search.{position_from_yields_List}
+use Rattle.sensor.specs.Sensor.{sensor_ranges}
+use Rattle.sensor.proofs.Sensors.{outside, first_outside}
 use Rattle.sensor.proofs.sensor_fault.Goals as goal
 
-pub loop-i-init : goal.loop-i-init
-unfolding sensor_check
-loop-i-init c = refl
-
-pub returns-then-not-contains : goal.returns-then-not-contains
-returns-then-not-contains c =
-    sym (c.loop-i.invariant ∙ first_stops _ _ _ _ c.loop-i-test.true (number_outside _ _ _ _ c.range_at.ensures c.contains.ensures c.if-not-contains.true))
-
-pub loop-i-preserved : goal.loop-i-preserved
-loop-i-preserved c =
-    c.loop-i.invariant ∙ first_more _ _ _ c.loop-i-test.true (number_inside _ _ _ _ c.range_at.ensures c.contains.ensures c.if-not-contains.false)
-
 pub returns : goal.returns
-returns c = sym (c.loop-i.invariant ∙ first_none _ _ _ c.loop-i-test.false)
+returns c =
+    let found = position_from_yields_List outside c.position.new.self _ _ c.position.ensures.ran (YieldsList-from_zip (YieldsList-from_slice c.args.numbers.now cc) (YieldsList-from_slice sensor_ranges cc)) (λ x b q k. search (rules, tests)) in
+    rw found (first_outside c.args.numbers.now c.told-numbers)
