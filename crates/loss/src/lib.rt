@@ -214,35 +214,51 @@ pub fn loss_uncertainty(parts: &[u64]) -> u64
     arith::root_up(parts.iter().map(|part| part * part).sum())
 }
 
-// The measured loss of a row: input torque times the ratio, less the output torque; nothing where that is under zero.
-// In half micronewton metres: 20,000 to a hundredth of Nm, so that 5 % of it is whole.
-#[tactic(auto, using(crate::proofs::Values::loss_says))]
-pub fn measured_loss(ratio: u16, input: u32, output: u32) -> Option<u64>
-    ensures { LossSays ratio input output result }
-{
-    let gained = 20 * at_ratio(input, ratio);
-    gained.checked_sub(20_000 * u64::from(output))
+// What a row was measured to: the ratio, the input torque, and the output torques together, in hundredths of Nm. What is
+// reckoned of it is in half micronewton metres: 20,000 to a hundredth of Nm, so that 5 % of a loss is whole.
+#[derive(Clone, Copy)]
+pub struct Measurement {
+    pub ratio: u16,
+    pub input: u32,
+    pub output: u32,
 }
 
-// The allowance of a row, in half micronewton metres: a twentieth of the measured loss or 1 Nm at the wheel, whichever
-// is more.
-pub fn allowance(ratio: u16, input: u32, output: u32) -> u64
-    ensures allowance { Same (result over 20000) (allowance ratio input output) }
-    ensures bound { result < 2 ^ 48 }
-{
-    let twentieth = at_ratio(input, ratio).saturating_sub(1000 * u64::from(output));
-    twentieth.max(2_000_000)
-}
+impl Measurement {
+    // The input torque times the ratio.
+    fn gained(self) -> u64
+        ensures gained { result ≡ 20 * (self.input * self.ratio) }
+        ensures bound { result < 2 ^ 53 }
+    {
+        20 * at_ratio(self.input, self.ratio)
+    }
 
-// The entry of a row, from its loss uncertainty in grains: what that has above the allowance is added to the measured
-// loss, and the sum rounded up to a hundredth.
-#[tactic(auto, using(crate::proofs::Rounding::same_is, crate::proofs::Values::entry_is))]
-pub fn measured_entry(ratio: u16, input: u32, output: u32, uncertainty: u32) -> u64
-    ensures { result ≡ entry_of ratio input output uncertainty }
-{
-    let allowed = allowance(ratio, input, output);
-    let more = (200 * u64::from(uncertainty)).saturating_sub(allowed);
-    let gained = 20 * at_ratio(input, ratio);
-    let spent = 20_000 * u64::from(output);
-    rounded_up((gained + more).saturating_sub(spent), 20_000)
+    // The measured loss: input torque times the ratio, less the output torque; nothing where that is under zero.
+    #[tactic(auto, using(crate::proofs::Values::loss_says))]
+    pub fn loss(self) -> Option<u64>
+        ensures { LossSays self.ratio self.input self.output result }
+    {
+        self.gained().checked_sub(20_000 * u64::from(self.output))
+    }
+
+    // The allowance: a twentieth of the measured loss or 1 Nm at the wheel, whichever is more.
+    pub fn allowance(self) -> u64
+        ensures allowance { Same (result over 20000) (allowance self.ratio self.input self.output) }
+        ensures bound { result < 2 ^ 48 }
+    {
+        let twentieth = at_ratio(self.input, self.ratio).saturating_sub(
+            1000 * u64::from(self.output),
+        );
+        twentieth.max(2_000_000)
+    }
+
+    // The entry, from the loss uncertainty in grains: what that has above the allowance is added to the measured loss, and
+    // the sum rounded up to a hundredth.
+    #[tactic(auto, using(crate::proofs::Rounding::same_is, crate::proofs::Values::entry_is))]
+    pub fn entry(self, uncertainty: u32) -> u64
+        ensures { result ≡ entry_of self.ratio self.input self.output uncertainty }
+    {
+        let more = (200 * u64::from(uncertainty)).saturating_sub(self.allowance());
+        let spent = 20_000 * u64::from(self.output);
+        rounded_up((self.gained() + more).saturating_sub(spent), 20_000)
+    }
 }

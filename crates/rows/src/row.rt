@@ -9,7 +9,7 @@ ghost use Rattle.loss.specs.Measured.{sensor_steps, output, row_uncertainty};
 ghost use Rattle.rows.specs.Rows.{near_axis, outputs_check};
 
 use grid::LARGEST_ENTRY;
-use loss::PreparedSensor;
+use loss::{Measurement, PreparedSensor};
 use refusal::Refusal;
 
 // A sensor with its torque in a row, in hundredths of Nm.
@@ -112,15 +112,18 @@ impl Row<'_> {
     {
         self.input.check_nominal(place)?;
         self.check_outputs(place + 4)?;
-        let output = self.output_torque();
-        if !near_axis(axis_torque, output) {
+        let measurement = Measurement {
+            ratio: self.ratio,
+            input: self.input.torque,
+            output: self.output_torque(),
+        };
+        if !near_axis(axis_torque, measurement.output) {
             return Err(Refusal::OffAxisTorque(place + 4));
         }
-        if loss::measured_loss(self.ratio, self.input.torque, output).is_none() {
+        if measurement.loss().is_none() {
             return Err(Refusal::NegativeLoss(place));
         }
-        let uncertainty = self.uncertainty();
-        let entry = loss::measured_entry(self.ratio, self.input.torque, output, uncertainty);
+        let entry = measurement.entry(self.uncertainty());
         if u64::from(LARGEST_ENTRY) < entry {
             return Err(Refusal::EntryTooLarge(place));
         }

@@ -9,7 +9,7 @@ use Rattle.rows.proofs.Acceptance.{outputs_right}
 use Rattle.rows.proofs.RowSteps.{loss_tests, outcome_at}
 use Rattle.rows.proofs.BenchRows.{right_most, loss_there}
 use Rattle.rows.proofs.row.Row.entry.Goals as goal
-use Rattle.rows.proofs.row.Row.entry.Goals.{In_ok-check_outputs, After-measured_entry-entry}
+use Rattle.rows.proofs.row.Row.entry.Goals.{In_ok-check_outputs, After-entry-entry}
 
 pub returns-in_err-check_nominal : goal.returns-in_err-check_nominal
 returns-in_err-check_nominal c =
@@ -26,17 +26,17 @@ within c = outputs_right _ (c.args.place + 4) (sym c.in_ok-check_outputs.ensures
 output_most : (c : In_ok-check_outputs) → c.args.self.now.output.torque ≤ 5000000
 output_most c = omega (arith, (within c).0, c.args.self.now.output.rules.nominal)
 
-pub output_torque-output-requires-clause-output : goal.output_torque-output-requires-clause-output
-output_torque-output-requires-clause-output c = output_most (goal.at.output_torque-output-requires-clause-output c).In_ok-check_outputs
+pub output_torque-requires-clause-output : goal.output_torque-requires-clause-output
+output_torque-requires-clause-output c = output_most (goal.at.output_torque-requires-clause-output c).In_ok-check_outputs
 
-pub output_torque-output-requires-clause-right : goal.output_torque-output-requires-clause-right
-output_torque-output-requires-clause-right c = right_most _ (within (goal.at.output_torque-output-requires-clause-right c).In_ok-check_outputs).1
+pub output_torque-requires-clause-right : goal.output_torque-requires-clause-right
+output_torque-requires-clause-right c = right_most _ (within (goal.at.output_torque-requires-clause-right c).In_ok-check_outputs).1
 
-pub uncertainty-uncertainty-requires-clause-output : goal.uncertainty-uncertainty-requires-clause-output
-uncertainty-uncertainty-requires-clause-output c = output_most (goal.at.uncertainty-uncertainty-requires-clause-output c).In_ok-check_outputs
+pub uncertainty-requires-clause-output : goal.uncertainty-requires-clause-output
+uncertainty-requires-clause-output c = output_most (goal.at.uncertainty-requires-clause-output c).In_ok-check_outputs
 
-pub uncertainty-uncertainty-requires-clause-right : goal.uncertainty-uncertainty-requires-clause-right
-uncertainty-uncertainty-requires-clause-right c = right_most _ (within (goal.at.uncertainty-uncertainty-requires-clause-right c).In_ok-check_outputs).1
+pub uncertainty-requires-clause-right : goal.uncertainty-requires-clause-right
+uncertainty-requires-clause-right c = right_most _ (within (goal.at.uncertainty-requires-clause-right c).In_ok-check_outputs).1
 
 others : (c : In_ok-check_outputs) → row_outcome c.args.axis_torque (row_of c.args.self.now) c.args.place
     ≡ (loss_tests c.args.axis_torque c.args.self.now.ratio c.args.self.now.input.torque (output (row_of c.args.self.now)) (measured_entry (row_of c.args.self.now)) c.args.place
@@ -45,31 +45,31 @@ others c =
     rw (outcome_at c.args.axis_torque (row_of c.args.self.now) c.args.place, ← c.in_ok-check_nominal.ensures, ← c.in_ok-check_outputs.ensures)
 
 pub returns-then-not-near_axis : goal.returns-then-not-near_axis
-returns-then-not-near_axis c = rw (others (goal.at.returns-then-not-near_axis c).In_ok-check_outputs, ← c.output_torque-output.ensures, ← c.if-not-near_axis.ensures)
+returns-then-not-near_axis c = rw (others (goal.at.returns-then-not-near_axis c).In_ok-check_outputs, ← c.output_torque.ensures, ← c.if-not-near_axis.ensures)
 
 pub returns-then-is_none : goal.returns-then-is_none
 returns-then-is_none c =
     rw (
       others (goal.at.returns-then-is_none c).In_ok-check_outputs,
-      ← c.output_torque-output.ensures,
+      ← c.output_torque.ensures,
       ← c.if-not-near_axis.ensures,
-      ← loss_there _ _ _ _ c.measured_loss.ensures,
+      ← loss_there _ _ _ _ c.loss.ensures,
       c.if-is_none.ensures,
     )
 
-entry_is : (c : After-measured_entry-entry) → measured_entry (row_of c.args.self.now) ≡ c.measured_entry-entry.result
+entry_is : (c : After-entry-entry) → measured_entry (row_of c.args.self.now) ≡ c.entry-entry.result
 unfolding measured_entry
-entry_is c = rw (← c.output_torque-output.ensures, c.measured_entry-entry.ensures, c.uncertainty-uncertainty.ensures)
+entry_is c = rw (← c.output_torque.ensures, c.entry-entry.ensures, c.uncertainty.ensures)
 
 pub returns-then-from-entry : goal.returns-then-from-entry
 returns-then-from-entry c =
     rw (
       others (goal.at.returns-then-from-entry c).In_ok-check_outputs,
-      ← c.output_torque-output.ensures,
+      ← c.output_torque.ensures,
       ← c.if-not-near_axis.ensures,
-      ← loss_there _ _ _ _ c.measured_loss.ensures,
+      ← loss_there _ _ _ _ c.loss.ensures,
       c.if-is_none.ensures,
-      entry_is (goal.at.returns-then-from-entry c).After-measured_entry-entry,
+      entry_is (goal.at.returns-then-from-entry c).After-entry-entry,
       lt-leb _ _ (rw c.from.ensures at c.if-from-entry.true),
     )
 
@@ -77,10 +77,10 @@ pub returns : goal.returns
 returns c =
     rw (
       others (goal.at.returns c).In_ok-check_outputs,
-      ← c.output_torque-output.ensures,
+      ← c.output_torque.ensures,
       ← c.if-not-near_axis.ensures,
-      ← loss_there _ _ _ _ c.measured_loss.ensures,
+      ← loss_there _ _ _ _ c.loss.ensures,
       c.if-is_none.ensures,
-      entry_is (goal.at.returns c).After-measured_entry-entry,
+      entry_is (goal.at.returns c).After-entry-entry,
       le-leb _ _ (rw c.from.ensures at c.if-from-entry.false),
     )

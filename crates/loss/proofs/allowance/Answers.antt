@@ -1,8 +1,0 @@
--- `loss::allowance` meets its contract. Assumes nothing.
-use Rattle.loss.proofs.Rounding.{is_same}
-use Rattle.loss.proofs.Values.{allowance_is}
-use Rattle.loss.proofs.allowance.Goals as goal
-
-pub returns-clause-allowance : goal.returns-clause-allowance
-returns-clause-allowance c =
-    rw (c.max.ensures, c.saturating_sub-twentieth.ensures, c.at_ratio.ensures.product, c.from.ensures) (is_same (allowance_is c.args.ratio c.args.input c.args.output))
