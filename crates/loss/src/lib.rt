@@ -245,9 +245,8 @@ impl Measurement {
         ensures allowance { Same (result over 20000) (allowance self.ratio self.input self.output) }
         ensures bound { result < 2 ^ 48 }
     {
-        let twentieth = at_ratio(self.input, self.ratio).saturating_sub(
-            1000 * u64::from(self.output),
-        );
+        let spent = 1000 * u64::from(self.output);
+        let twentieth = at_ratio(self.input, self.ratio).saturating_sub(spent);
         twentieth.max(2_000_000)
     }
 
