@@ -26,7 +26,8 @@ fn build_row(row: &[u32], entries: &mut [u32])
 }
 
 // Each speed's row, one stretch after the other, from rows that were reckoned before: that of a speed starts step
-// places after the one before.
+// places after the one before. By an index, for step is 0 where all speeds share a row, and after `chunks_exact_mut` a
+// proof knows nothing of what was written.
 fn build_rows(from: &[u32], step: usize, size: usize, speeds: usize, entries: &mut [u32])
     requires from { speeds * step + size ≤ length from.now + step }
     requires entries { speeds * size ≤ length entries.old }

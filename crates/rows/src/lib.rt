@@ -88,7 +88,8 @@ impl Bench {
     }
 }
 
-// The rows of one speed: their entries are written to the first places of what is lent.
+// The rows of one speed: their entries are written to the first places of what is lent. By an index, for a refusal tells
+// the row's place.
 fn fill_speed(
     rows: Rows,
     bench: &Bench,
