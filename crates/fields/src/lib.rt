@@ -19,13 +19,6 @@ pub fn pair(high: u8, low: u8) -> u16
     u16::from_be_bytes([high, low])
 }
 
-// The number of four bytes.
-pub fn four(a: u8, b: u8, c: u8, d: u8) -> u32
-    ensures { result ≡ ((a * 256 + b) * 256 + c) * 256 + d }
-{
-    u32::from_be_bytes([a, b, c, d])
-}
-
 // The number of one byte or two.
 fn number_of(bytes: &[u8]) -> u16
     requires { (1 ≤ length bytes.now) × (length bytes.now ≤ 2) }

@@ -36,8 +36,8 @@ fn none_too_large(entries: &[u32]) -> bool
     ensures { IsTrue result ↔ EachIndex entries.now (λ k. slice_index entries.now k ≤ 10000000) }
 {
     let mut none = true;
-    for i in 0..entries.len() {
-        none &= entries[i] <= LARGEST_ENTRY;
+    for entry in entries {
+        none &= *entry <= LARGEST_ENTRY;
     }
     none
 }

@@ -3,5 +3,5 @@ use Rattle.std.proofs.Common.{ℕ, ◌<◌, ◌≤◌}
 use Rattle.std.specs.Prelude.{◌↔◌, IsTrue, slice_index}
 use Rattle.lent.proofs.none_too_large.Given as goal
 
-abbrev pub invariant-loop-i : goal.invariant-loop-i
-invariant-loop-i l = IsTrue l.none ↔ ((k : ℕ) → k < l.i → slice_index l.entries k ≤ 10000000)
+abbrev pub invariant-loop-entry : goal.invariant-loop-entry
+invariant-loop-entry l = IsTrue l.none ↔ ((k : ℕ) → k < l.entry-index → slice_index l.entries k ≤ 10000000)
