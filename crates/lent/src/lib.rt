@@ -1,7 +1,7 @@
 // Whether what a caller lends as a map is one (22): axes that keep their rules, and an entry for each point, none above the largest.
 #![tactic(auto)]
 
-ghost use Rattle.std.specs.Prelude.{◌≡◌, true, ◌*◌, ◌≤◌, ◌<◌, ◌↔◌, IsTrue, length, take, drop, EachIndex, slice_index, IfOk};
+ghost use Rattle.std.specs.Prelude.{◌≡◌, true, ◌≤◌, ◌↔◌, IsTrue, length, EachIndex, slice_index, IfOk};
 ghost use Rattle.refusal.specs.Outcome.{require};
 ghost use Rattle.refusal.specs.Table.{outcome_as};
 ghost use Rattle.grid.specs.Map.{counted_numbers, valid_entries, valid_map};
@@ -77,19 +77,6 @@ impl Map<'_> {
         ensures long { length result.now ≡ self.now.grid.now.torques.count }
     {
         self.grid.torques.counted_numbers()
-    }
-
-    // The entries of speed number i, one for each torque.
-    pub fn row(&self, i: usize) -> &[u32]
-        requires { i < self.now.grid.now.speeds.count }
-        ensures row { result.now ≡
-            take self.now.grid.now.torques.count
-            (drop (i * self.now.grid.now.torques.count) self.now.entries.now) }
-        ensures long { length result.now ≡ self.now.grid.now.torques.count }
-    {
-        let count = self.grid.torques.count;
-        let first = i * count;
-        &self.entries[first..first + count]
     }
 }
 

@@ -12,14 +12,14 @@ write_row-requires-clause-room c =
     let map = c.args.map.now in
     let l : c.loop-i.i < map.grid.now.speeds.count = omega arith in
     let long = rw c.torques-torques.ensures.numbers at c.torques-torques.ensures.long in
-    rw (c.speeds-speed-items.ensures.numbers, c.torques-torques.ensures.numbers, c.row.ensures.row, row_of_parts _ _ _ _ _ _ l long)
+    rw (c.speeds-speed-items.ensures.numbers, c.torques-torques.ensures.numbers, row_of_parts _ _ _ _ _ _ l long)
     (room_next _ _ c.loop-i.invariant map.grid.now.speeds.count l (omega (arith, length_listing map.grid.now map.entries.now, c.requires)))
 
 pub loop-i-preserved : goal.loop-i-preserved
 loop-i-preserved c =
     let l : c.loop-i.i < c.args.map.now.grid.now.speeds.count = omega arith in
     let long = rw c.torques-torques.ensures.numbers at c.torques-torques.ensures.long in
-    appends_next _ _ c.loop-i.invariant (rw (c.speeds-speed-items.ensures.numbers, c.torques-torques.ensures.numbers, c.row.ensures.row, row_of_parts _ _ _ _ _ _ l long) at c.write_row.ensures)
+    appends_next _ _ c.loop-i.invariant (rw (c.speeds-speed-items.ensures.numbers, c.torques-torques.ensures.numbers, row_of_parts _ _ _ _ _ _ l long) at c.write_row.ensures)
 
 pub returns : goal.returns
 unfolding header listing rows
