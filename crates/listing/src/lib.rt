@@ -57,8 +57,7 @@ fn row_length(speed: u16, torques: &[u16], losses: &[u32]) -> usize
     total
 }
 
-// Writes the lines of one speed. By an index: over `torques.iter().zip(losses)` a listing takes up to 16 % longer, by where
-// its code lies.
+// Writes the lines of one speed. By an index: over `torques.iter().zip(losses)` a listing takes up to 16 % longer.
 fn write_row(speed: u16, torques: &[u16], losses: &[u32], text: &mut Writer)
     requires enough { length torques.now ≤ length losses.now }
     requires room { HasRoom (length (row speed torques.now (length torques.now) losses.now 0)) text.old }

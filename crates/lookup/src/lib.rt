@@ -3,7 +3,7 @@
 
 ghost use Rattle.std.specs.Prelude.{◌≡◌, true, ℕ, ◌*◌, ◌<◌, ◌≤◌, length, slice_index, EachIndex, MatchOption, ◌-◌, get_or};
 ghost use Rattle.refusal.specs.Table.{outcome_of};
-ghost use Rattle.grid.specs.Map.{counted_numbers, valid_map};
+ghost use Rattle.grid.specs.Map.{counted_numbers, valid_grid};
 ghost use Rattle.cell.specs.Cell.{Within};
 ghost use Rattle.lookup.specs.Loss.{neighbour, loss_at, loss_answer};
 ghost use Rattle.lookup.specs.Nearest.{distance, nearest_number, nearest_answer};
@@ -29,25 +29,22 @@ struct ScaledAxis<'a> {
     pub ghost fits: { scale ≤ 100 },
 }
 
-// Speeds, in tenths of rpm.
-fn speed_axis(numbers: &[u16]) -> ScaledAxis<'_>
-    requires { 0 < length numbers.now }
-    ensures numbers { result.numbers.now ≡ numbers.now }
-    ensures scale { result.scale ≡ 10 }
+// Both axes of a grid, speeds in tenths of rpm and torques in hundredths of Nm.
+#[tactic(auto, using(crate::proofs::Axes::counts))]
+fn scaled_axes(grid: &Grid) -> (ScaledAxis<'_>, ScaledAxis<'_>)
+    requires { valid_grid grid.now ≡ true }
+    ensures speeds { (result.0.numbers.now ≡ counted_numbers grid.now.speeds) × (result.0.scale ≡ 10) }
+    ensures torques { (result.1.numbers.now ≡ counted_numbers grid.now.torques) × (result.1.scale ≡ 100) }
 {
-    ScaledAxis { numbers, scale: 10 }
-}
-
-// Torques, in hundredths of Nm.
-fn torque_axis(numbers: &[u16]) -> ScaledAxis<'_>
-    requires { 0 < length numbers.now }
-    ensures numbers { result.numbers.now ≡ numbers.now }
-    ensures scale { result.scale ≡ 100 }
-{
-    ScaledAxis {
-        numbers,
+    let speeds = ScaledAxis {
+        numbers: grid.speeds.counted_numbers(),
+        scale: 10,
+    };
+    let torques = ScaledAxis {
+        numbers: grid.torques.counted_numbers(),
         scale: 100,
-    }
+    };
+    (speeds, torques)
 }
 
 impl ScaledAxis<'_> {
@@ -77,7 +74,8 @@ impl ScaledAxis<'_> {
             .rposition(|number| self.scale * u64::from(*number) <= v)
     }
 
-    // The index of the lower neighbour of v: the last number at or below v, but for the last of all.
+    // The index of the lower neighbour of v: the last number at or below v, but for the last of all; the first where v is
+    // below all.
     fn neighbour(&self, v: u64) -> usize
         requires { 2 ≤ length self.now.numbers.now }
         ensures { result ≡ neighbour self.now.numbers.now self.now.scale v }
@@ -89,28 +87,27 @@ impl ScaledAxis<'_> {
         lower.last_at_or_below(v).unwrap_or(0)
     }
 
-    // How far number i is from v.
-    fn distance(&self, i: usize, v: u64) -> u64
-        requires { i < length self.now.numbers.now }
-        ensures { result ≡ distance (self.now.scale * get_or self.now.numbers.now i 0) v }
+    // How far a number is from v.
+    fn distance(&self, number: u16, v: u64) -> u64
+        ensures { result ≡ distance (self.now.scale * number) v }
     {
-        self.at(i).abs_diff(v)
+        (self.scale * u64::from(number)).abs_diff(v)
     }
 
     // The number that is nearest to v; the lower one where two are equally near. By `min_by_key` it takes 13 % longer.
     fn nearest(&self, v: u64) -> u16
         ensures { result ≡ nearest_number self.now.numbers.now self.now.scale v }
     {
-        let mut nearest = 0;
-        let mut least = self.distance(0, v);
-        for i in 1..self.numbers.len() {
-            let d = self.distance(i, v);
+        let mut nearest = self.numbers[0];
+        let mut least = self.distance(nearest, v);
+        for number in &self.numbers[1..] {
+            let d = self.distance(*number, v);
             if d < least {
-                nearest = i;
+                nearest = *number;
                 least = d;
             }
         }
-        self.numbers[nearest]
+        nearest
     }
 }
 
@@ -120,8 +117,7 @@ pub fn loss(grid: &Grid, entries: &[u32], point: Point) -> Result<i64, Refusal>
     ensures { outcome_of result ≡ loss_answer grid.now entries.now point }
 {
     let map = lent::tested_map(grid, entries)?;
-    let speeds = speed_axis(map.speeds());
-    let torques = torque_axis(map.torques());
+    let (speeds, torques) = scaled_axes(grid);
     let speed = u64::from(point.speed);
     if speed < speeds.at(0) || speeds.last() < speed {
         return Err(Refusal::SpeedOutside);
@@ -140,8 +136,9 @@ fn loss_within(map: &Map, point: Point) -> i64
         loss_at (counted_numbers map.now.grid.now.speeds) (counted_numbers map.now.grid.now.torques) map.now.entries.now
         point }
 {
-    let i = speed_axis(map.speeds()).neighbour(u64::from(point.speed));
-    let j = torque_axis(map.torques()).neighbour(u64::from(point.torque));
+    let (speeds, torques) = scaled_axes(map.grid);
+    let i = speeds.neighbour(u64::from(point.speed));
+    let j = torques.neighbour(u64::from(point.torque));
     let cell = cell::cell_numbers(map.grid, map.entries, i, j);
     cell::interpolate(cell, point)
 }
@@ -154,8 +151,7 @@ pub fn nearest(grid: &Grid, point: Point) -> Result<GridPoint, Refusal>
     if !grid::grid_valid(grid) {
         return Err(Refusal::NotAMap);
     }
-    let speeds = speed_axis(grid.speeds.counted_numbers());
-    let torques = torque_axis(grid.torques.counted_numbers());
+    let (speeds, torques) = scaled_axes(grid);
     Ok(GridPoint {
         speed: speeds.nearest(u64::from(point.speed)),
         torque: torques.nearest(u64::from(point.torque)),

@@ -8,13 +8,17 @@ use Rattle.lookup.proofs.loss_within.Goals as goal
 pub cell_numbers-cell-requires : goal.cell_numbers-cell-requires
 unfolding cell_of
 cell_numbers-cell-requires c =
-    rw (c.neighbour-i.ensures, c.neighbour-j.ensures, c.speed_axis.ensures.numbers, c.speed_axis.ensures.scale, c.torque_axis.ensures.numbers, c.torque_axis.ensures.scale, c.speeds.ensures.numbers, c.torques.ensures.numbers, c.from.ensures, c.from-2.ensures)
+    let speeds = c.scaled_axes.ensures.speeds in
+    let torques = c.scaled_axes.ensures.torques in
+    rw (c.neighbour-i.ensures, c.neighbour-j.ensures, speeds.0, speeds.1, torques.0, torques.1, c.from.ensures, c.from-2.ensures)
     (cell_there _ _ _ c.args.map.now.tested c.requires)
 
 pub interpolate-requires : goal.interpolate-requires
 unfolding cell_of
 interpolate-requires c =
-    rw (c.cell_numbers-cell.ensures, c.neighbour-i.ensures, c.neighbour-j.ensures, c.speed_axis.ensures.numbers, c.speed_axis.ensures.scale, c.torque_axis.ensures.numbers, c.torque_axis.ensures.scale, c.speeds.ensures.numbers, c.torques.ensures.numbers, c.from.ensures, c.from-2.ensures)
+    let speeds = c.scaled_axes.ensures.speeds in
+    let torques = c.scaled_axes.ensures.torques in
+    rw (c.cell_numbers-cell.ensures, c.neighbour-i.ensures, c.neighbour-j.ensures, speeds.0, speeds.1, torques.0, torques.1, c.from.ensures, c.from-2.ensures)
     (cell_bounds _ _ _ c.args.map.now.tested c.requires)
 
 pub returns : goal.returns
