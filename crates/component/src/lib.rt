@@ -29,7 +29,8 @@ pub struct Measured<'a> {
 // The numbers that component data says.
 #[derive(Clone, Copy)]
 pub struct Component<'a> {
-    // the axle line, 1 to 5: SR, SRT, SP, HR, HRT; a number, for it is the index of the table of lines
+    // the axle line, 1 to 5: SR, SRT, SP, HR, HRT; a number, for it is the index of the table of lines, and an enum would be
+    // turned back into it
     pub line: u16,
     // thousandths
     pub ratio: u16,
@@ -59,7 +60,7 @@ impl Kind {
         }
     }
 
-    // The kind of a number, where one has it.
+    // The kind of a number, where one has it. (`TryFrom` would need an error that says nothing.)
     #[tactic(auto, using(grid::proofs::AxisLaws::not_within))]
     pub fn from_number(number: u16) -> Option<Kind>
         ensures { MatchOption result (within (1 to 3) number ≡ false) (λ kind. number_of kind ≡ number) }
@@ -152,7 +153,7 @@ struct Outputs {
     pub right: Option<Sensor>,
 }
 
-// Tag 7, and where the kind has a sensor on each half shaft tag 9.
+// Tag 7, and where a measured kind has a sensor on each half shaft tag 9.
 #[tactic(auto, unfolding(crate::specs::Component::output_tags, crate::specs::Component::sensor_fields))]
 fn read_outputs(start: Cursor<'_>, kind: Kind) -> Result<(Outputs, Cursor<'_>), Refusal>
     ensures { RunOf start.entry (λ bytes at. sensor_fields bytes at (output_tags (number_of kind))) outputs_in result }
@@ -181,7 +182,8 @@ pub fn rows_tag(kind: u16) -> u8
     if kind == 2 { 8 } else { 10 }
 }
 
-// How many bytes the rows have: four for each sensor at each point.
+// How many bytes the rows of a measured kind have: four for each sensor at each point. (That the points are few is a clause
+// here and where it is handed on: a type for a number of points would be made and opened at once.)
 fn rows_length(kind: Kind, points: usize) -> usize
     requires { points ≤ 2048 }
     ensures { result ≡ row_length (number_of kind) * points }

@@ -1,5 +1,5 @@
-// The rows of readings, as they stand in the data. A file of its own, for one that has a ghost field may not cite definitions
-// that name its struct, as `Reads` does.
+// The rows of readings, as they stand in the data. In a file of their own: a struct with a ghost field may not stand in a file
+// whose clauses cite definitions that name the struct, as `Reads` does.
 ghost use Rattle.std.specs.Prelude.{◌+◌, ◌<◌, ◌^◌, length};
 
 // The rows of tag 8 or 10: the place of the first byte in the data, and their bytes.

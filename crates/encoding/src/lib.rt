@@ -81,7 +81,7 @@ fn write_field<T: FieldNumber>(tag: u8, numbers: &[T], file: &mut Writer)
 {
     let size = T::SIZE * numbers.len();
     tag.write(file);
-    // fits: the first clause asks for it
+    // fits: `size` asks for it
     (size as u16).write(file);
     for number in numbers {
         number.write(file);
@@ -124,7 +124,8 @@ pub fn encode(numbers: &Numbers, rows: &[u32], file: &mut Writer)
     requires room { HasRoom longest file.old }
     ensures { Appends (layout (says numbers.now rows.now)) file.old file.new }
 {
-    // there is one, for the numbers have passed their tests; so the two casts fit
+    // There is one, for the numbers have passed their tests; so the two casts fit. (It is found again here: a struct of numbers
+    // and kind that have passed would be made for this one caller.)
     let kind = Kind::from_number(numbers.kind).unwrap();
     write_field(1, &[numbers.kind as u8], file);
     write_field(2, &[numbers.line as u8], file);

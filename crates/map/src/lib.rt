@@ -25,9 +25,9 @@ fn build_row(row: &[u32], entries: &mut [u32])
     entries[..row.len()].copy_from_slice(row);
 }
 
-// Each speed's row, one stretch after the other, from rows that were reckoned before: that of a speed starts step
-// places after the one before. By an index, for step is 0 where all speeds share a row, and after `chunks_exact_mut` a
-// proof knows nothing of what was written.
+// Each speed's row, one stretch after the other, from rows that were reckoned before: that of a speed starts step places
+// after the one before, 0 where all speeds share a row. (A closure that gives a speed's row would need a contract of its own
+// at both calls.) By an index, for after `chunks_exact_mut` a proof knows nothing of what was written.
 fn build_rows(from: &[u32], step: usize, size: usize, speeds: usize, entries: &mut [u32])
     requires from { speeds * step + size ≤ length from.now + step }
     requires entries { speeds * size ≤ length entries.old }
@@ -39,7 +39,7 @@ fn build_rows(from: &[u32], step: usize, size: usize, speeds: usize, entries: &m
     }
 }
 
-// The standard row, which all speeds share. An entry fits 32 bits, as `standard_entry` says.
+// The standard row, which all speeds share. An entry fits 32 bits, as `standard_entry` says. By an index, as above.
 fn standard_row(component: &Component, torques: &[u16]) -> [u32; 64]
     requires { length torques.now ≤ 64 }
     ensures { result ≡

@@ -6,7 +6,8 @@ ghost use Rattle.refusal.specs.Table.{number, place};
 
 use std::fmt;
 
-// Each case holds the place that is given with it; those without one have place 0.
+// Each case holds the place that is given with it; those without one have place 0. (A struct of a kind and a place would let
+// these three have another.)
 #[derive(Clone, Copy)]
 pub enum Refusal {
     // 1: a head or a body that the end of the data cuts off. The head's offset.
@@ -117,7 +118,7 @@ impl Refusal {
     }
 }
 
-// As the map program tells it.
+// In words for people. The map program writes the same line by `listing::write_refusal`, whose bytes are proved.
 impl fmt::Display for Refusal {
     fn fmt<W: fmt::Write>(&self, f: &mut fmt::Formatter<W>) -> fmt::Result {
         write!(f, "refused {} at {}", self.number(), self.place())

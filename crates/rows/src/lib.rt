@@ -28,7 +28,8 @@ pub struct Bench {
     pub right: Option<PreparedSensor>,
 }
 
-// The torque at an index of the rows' bytes. (An index, here and in `row_at`: it is no plainer to cut a part for each.)
+// The torque at an index of the rows' bytes. (By an index, here and below: two or three torques of a row are read once each, and
+// what is cut for a row would be cut again for each of them.)
 #[tactic(auto, using(crate::proofs::FourBytes::four_at), unfolding(crate::specs::Rows::torque_at))]
 fn torque_at(bytes: &[u8], at: usize) -> u32
     requires { at + 4 ≤ length bytes.now }
@@ -89,7 +90,8 @@ impl Bench {
 }
 
 // The rows of one speed: their entries are written to the first places of what is lent. By an index, for a refusal tells
-// the row's place.
+// the row's place, and after `entries.iter_mut()` a proof knows nothing of what was written. (Rows, bench and torques are three:
+// each speed has its own part of the rows, and a struct of the three would be made anew for it.)
 fn fill_speed(
     rows: Rows,
     bench: &Bench,
@@ -116,7 +118,7 @@ fn fill_speed(
     Ok(())
 }
 
-// The rows of all speeds, one speed after the other.
+// The rows of all speeds, one speed after the other; by an index as above.
 pub fn fill_rows(
     rows: Rows,
     bench: &Bench,

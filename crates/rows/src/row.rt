@@ -12,7 +12,8 @@ use grid::LARGEST_ENTRY;
 use loss::{Measurement, PreparedSensor};
 use refusal::Refusal;
 
-// A sensor with its torque in a row, in hundredths of Nm.
+// A sensor with its torque in a row, in hundredths of Nm. (That the torque is at most 50,000.00 Nm is known once 7 was tested,
+// and is a clause from there on: a second type for a reading that passed would be made and opened at once.)
 #[derive(Clone, Copy)]
 pub struct Reading<'a> {
     pub sensor: &'a PreparedSensor,
@@ -50,7 +51,8 @@ fn near_axis(torque: u16, output: u32) -> bool
     output.abs_diff(100 * u32::from(torque)) <= 500
 }
 
-// The readings of a row. Where there is a right output, output is the left one.
+// The readings of a row. Where there is a right output, output is the left one. (It is no `Bench` of another type: its sensors
+// are right, while a bench takes any.)
 #[derive(Clone, Copy)]
 pub struct Row<'a> {
     pub ratio: u16,
