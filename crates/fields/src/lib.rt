@@ -111,8 +111,8 @@ impl<'a> Field<'a, &'a [u8]> {
 }
 
 // Writes the numbers of an axis body to the first places of what is lent; place is where the body starts in the data,
-// apart from it here and below, for a `Field` would be taken apart at once. A `match`, for the closure of a `map_err`
-// is not known to get an index whose place fits.
+// apart from it here and below, for a `Field` would be taken apart at once. By a `match`, for the closure of a `map_err`
+// would have to say itself that the place fits.
 fn read_numbers(body: &[u8], place: usize, range: Range, numbers: &mut [u16]) -> Result<(), Refusal>
     requires { (length body.now ≤ length numbers.old * 2) × (place + length body.now < 2 ^ 64) }
     ensures { outcome_as (λ nothing. take (length body.now / 2) numbers.new) result ≡ axis range body.now place }
