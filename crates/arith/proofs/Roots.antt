@@ -6,7 +6,7 @@ use native.Mathlib.Omega.{arith, by_contra, pred_cases}
 use lib.Dec.{leb, ltb}
 use borrow.Author.Tests.{ltb-true, ltb-false, leb-true, leb-false}
 use Rattle.arith.specs.Root.{RootUp, RootDown, bisection, root_up, root_down, root_up_unique}
-use Rattle.arith.proofs.Squares.{square_at_most}
+use Rattle.arith.proofs.Squares.{square_at_most, square_below}
 
 -- the next number after one whose square is too small is the root, where its square is enough
 pub next_is_root : (n low high : ℕ) → low * low < n → n ≤ high * high → high ≤ suc low → RootUp n high
@@ -50,6 +50,10 @@ root_of_zero n e = is_root_up (record { enough = omega arith; least = λ r h. om
 
 pub next_is_root_up : (n low high : ℕ) → low * low < n → n ≤ high * high → high ≤ suc low → high ≡ root_up n
 next_is_root_up n low high a b c = is_root_up (next_is_root n low high a b c)
+
+-- the root rounded down, where its square is all of the number
+pub exact_is_root_up : (n r : ℕ) → r * r ≤ n → n ≤ r * r → r ≡ root_up n
+exact_is_root_up n r a b = is_root_up (record { enough = b; least = λ s h. by_contra r s (λ l. omega (arith, square_below l)) })
 
 -- ---- rounded down
 

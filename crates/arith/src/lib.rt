@@ -13,7 +13,7 @@ pub fn quotient_up(n: u64, d: u64) -> u64
     if d == 0 { 0 } else { n.div_ceil(d) }
 }
 
-// The root of n rounded up: a near guess, tested.
+// The root of n rounded up: a near guess, tested, for by `isqrt` alone it takes longer.
 pub fn root_up(n: u64) -> u64
     ensures { result ≡ root_up n }
 {
@@ -25,7 +25,7 @@ pub fn root_up(n: u64) -> u64
     }
 }
 
-// The root of n rounded up, from a guess that is not it: a step of Newton's method, from one above so that its sum fits, and one up or down, tested; bisection where that is not it either.
+// The root of n rounded up, from a guess that is not it: a step of Newton's method, from one above so that its sum fits, and one up or down, tested; `isqrt` where that is not it either.
 fn root_up_about(n: u64, near: u64) -> u64
     requires { Guess near }
     ensures { result ≡ root_up n }
@@ -34,7 +34,7 @@ fn root_up_about(n: u64, near: u64) -> u64
     if is_root_up(n, candidate) {
         candidate
     } else {
-        root_up_by_bisection(n)
+        root_up_by_isqrt(n)
     }
 }
 
@@ -51,26 +51,13 @@ fn is_root_up(n: u64, r: u64) -> bool
     below * below < n && n <= r * r
 }
 
-// The root of n rounded up, by bisection.
-#[tactic(auto, using(crate::proofs::Roots::root_of_zero, crate::proofs::Roots::next_is_root_up))]
-fn root_up_by_bisection(n: u64) -> u64
+// The root of n rounded up, from that rounded down.
+#[tactic(auto, using(crate::proofs::Roots::exact_is_root_up, crate::proofs::Roots::next_is_root_up))]
+fn root_up_by_isqrt(n: u64) -> u64
     ensures { result ≡ root_up n }
 {
-    if n == 0 {
-        return 0;
-    }
-    let mut low: u64 = 0;
-    let mut high: u64 = 4294967296;
-    // Halves an interval and counts no index, so no `for` fits.
-    while low + 1 < high {
-        let middle = (low + high) / 2;
-        if middle * middle < n {
-            low = middle;
-        } else {
-            high = middle;
-        }
-    }
-    high
+    let below = n.isqrt();
+    if below * below < n { below + 1 } else { below }
 }
 
 // One step from near towards the root of n rounded up, or none.

@@ -118,10 +118,7 @@ impl From<Result<GridPoint, Refusal>> for AxleNearest {
 
     fn from(answer: Result<GridPoint, Refusal>) -> AxleNearest {
         let status = status_of(&answer);
-        let point = answer.unwrap_or(GridPoint {
-            speed: 0,
-            torque: 0,
-        });
+        let point = answer.unwrap_or_default();
         AxleNearest {
             refusal: status.refusal,
             place: status.place,

@@ -37,9 +37,9 @@ filled body before now chunks i front long end written rest =
     let first : take i now ≡ pairs body = written ∙ rw (all, front) (pairs_are body) in
     sym (take-append-drop i now) ∙ rw (first, rest, at) refl
 
-pub one_byte : (bytes : List ℕ) → length bytes ≡ 1 → number_of bytes ≡ 0 * 256 + get_or bytes 0 0
+pub one_byte : (bytes : List ℕ) → length bytes ≡ 1 → number_of bytes ≡ get_or bytes 0 0
 one_byte [] h = absurd (omega arith)
-one_byte (a ∷ []) h = refl
+one_byte (a ∷ []) h = omega arith
 one_byte (a ∷ b ∷ s) h = absurd (omega arith)
 
 pub two_bytes_lem : (bytes : List ℕ) → length bytes ≡ 2 → number_of bytes ≡ get_or bytes 0 0 * 256 + get_or bytes 1 0

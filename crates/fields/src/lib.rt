@@ -12,22 +12,16 @@ use grid::{Axis, Range};
 use refusal::Refusal;
 use sensor::Sensor;
 
-// The number of two bytes, most significant first.
-pub fn pair(high: u8, low: u8) -> u16
-    ensures { result ≡ high * 256 + low }
-{
-    u16::from_be_bytes([high, low])
-}
-
-// The number of one byte or two.
+// The number of one byte or two, most significant first.
+#[tactic(auto, using(crate::proofs::Pairs::one_byte, crate::proofs::Pairs::two_bytes_lem))]
 fn number_of(bytes: &[u8]) -> u16
     requires { (1 ≤ length bytes.now) × (length bytes.now ≤ 2) }
     ensures { result ≡ number_of bytes.now }
 {
     if bytes.len() == 1 {
-        pair(0, bytes[0])
+        u16::from(bytes[0])
     } else {
-        pair(bytes[0], bytes[1])
+        u16::from_be_bytes([bytes[0], bytes[1]])
     }
 }
 
@@ -39,8 +33,8 @@ fn fill(body: &[u8], numbers: &mut [u16])
     ensures { numbers.new ≡ pairs body.now ++ drop (length body.now / 2) numbers.old }
 {
     let (pairs, _) = body.as_chunks::<2>();
-    for (i, [high, low]) in pairs.iter().enumerate() {
-        numbers[i] = pair(*high, *low);
+    for (i, pair) in pairs.iter().enumerate() {
+        numbers[i] = u16::from_be_bytes(*pair);
     }
 }
 
@@ -117,7 +111,8 @@ impl<'a> Field<'a, &'a [u8]> {
 }
 
 // Writes the numbers of an axis body to the first places of what is lent; place is where the body starts in the data,
-// apart from it here and below, for a `Field` would be taken apart at once.
+// apart from it here and below, for a `Field` would be taken apart at once. By a `match`, for the closure of a `map_err`
+// would have to say itself that the place fits.
 fn read_numbers(body: &[u8], place: usize, range: Range, numbers: &mut [u16]) -> Result<(), Refusal>
     requires { (length body.now ≤ length numbers.old * 2) × (place + length body.now < 2 ^ 64) }
     ensures { outcome_as (λ nothing. take (length body.now / 2) numbers.new) result ≡ axis range body.now place }

@@ -14,7 +14,7 @@ use lent::Map;
 use refusal::Refusal;
 
 // A point of a grid: a speed in rpm and a torque in Nm.
-#[derive(Clone, Copy)]
+#[derive(Clone, Copy, Default)]
 pub struct GridPoint {
     pub speed: u16,
     pub torque: u16,

@@ -111,6 +111,7 @@ fn product(a: u16, b: u16, c: u32) -> u64
 }
 
 // b, g and h of a sensor.
+#[tactic(auto, unfolding(crate::specs::Measured::fixed_parts, crate::specs::Measured::grains_up, crate::specs::Measured::temperature_on_zero, crate::specs::Measured::calibration, crate::specs::Measured::parasitic_loads))]
 fn fixed_parts(sensor: Sensor) -> FixedParts
     ensures { result ≡ fixed_parts sensor }
 {
@@ -176,13 +177,13 @@ impl PreparedSensor {
             product(self.sensor.sensitivity, self.sensor.difference, torque),
             100_000 * u64::from(self.sensor.span),
         );
-        // fits: it is at most 43,000,000
         let uncertainty = sensor_uncertainty(sensitivity, zero, calibration, parasitic);
         Steps {
             sensitivity,
             zero,
             calibration,
             parasitic,
+            // fits: it is at most 43,000,000
             uncertainty: uncertainty as u32,
         }
     }
@@ -245,8 +246,8 @@ impl Measurement {
         ensures allowance { Same (result over 20000) (allowance self.ratio self.input self.output) }
         ensures bound { result < 2 ^ 48 }
     {
-        let spent = 1000 * u64::from(self.output);
-        let twentieth = at_ratio(self.input, self.ratio).saturating_sub(spent);
+        let twentieth_spent = 1000 * u64::from(self.output);
+        let twentieth = at_ratio(self.input, self.ratio).saturating_sub(twentieth_spent);
         twentieth.max(2_000_000)
     }
 

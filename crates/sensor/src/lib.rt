@@ -84,16 +84,27 @@ impl From<[u16; 9]> for Sensor {
     ghost from_gives = { λ numbers sensor. sensor ≡ sensor_of numbers };
 
     fn from(numbers: [u16; 9]) -> Sensor {
+        let [
+            nominal,
+            sensitivity,
+            zero,
+            calibration,
+            advancement,
+            parasitic,
+            share,
+            difference,
+            span,
+        ] = numbers;
         Sensor {
-            nominal: numbers[0],
-            sensitivity: numbers[1],
-            zero: numbers[2],
-            calibration: numbers[3],
-            advancement: numbers[4],
-            parasitic: numbers[5],
-            share: numbers[6],
-            difference: numbers[7],
-            span: numbers[8],
+            nominal,
+            sensitivity,
+            zero,
+            calibration,
+            advancement,
+            parasitic,
+            share,
+            difference,
+            span,
         }
     }
 }
