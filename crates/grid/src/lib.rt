@@ -191,6 +191,7 @@ fn axis_valid<const N: usize>(axis: &Axis<N>, range: Range) -> bool
 }
 
 // Whether a speed axis keeps its rules: 2 to 32 numbers, 1 to 3,000 rpm each, rising.
+#[tactic(auto, unfolding(crate::specs::Map::valid_speeds))]
 pub fn speeds_valid(axis: &SpeedAxis) -> bool
     ensures { result ≡ valid_speeds axis.now.numbers axis.now.count }
 {
