@@ -42,13 +42,13 @@ right_of_first range ns count i h =
     let before : get_or (take count ns) (i - 1) 0 ≡ get_or ns (i - 1) 0 = get_or-take count ns (i - 1) 0 (omega arith) in
     rw (here, before)
 
-pub counted_right : {places count : ℕ} {ns part : List ℕ} (range : Range) → CountedNumbers places ns count part
+counted_right : {places count : ℕ} {ns part : List ℕ} (range : Range) → CountedNumbers places ns count part
     → every (right_at range part) (length part) ≡ valid_numbers places range ns count
 unfolding valid_numbers
 counted_right {places} {count} {ns} {part} range c =
     rw (le-leb 2 count c.at_least, le-leb count places c.at_most, c.long, c.numbers) (every_same _ _ count (right_of_first range ns count))
 
-pub not_counted : (places : ℕ) (range : Range) (ns : List ℕ) (count : ℕ) → (count < 2) ⊎ (places < count) → false ≡ valid_numbers places range ns count
+not_counted : (places : ℕ) (range : Range) (ns : List ℕ) (count : ℕ) → (count < 2) ⊎ (places < count) → false ≡ valid_numbers places range ns count
 unfolding valid_numbers
 not_counted places range ns count (inl few) = rw (lt-leb 2 count few)
 not_counted places range ns count (inr many) = rw (lt-leb count places many) (sym (and_false (leb 2 count)))
