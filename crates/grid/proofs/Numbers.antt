@@ -1,6 +1,9 @@
 -- Laws of the numbers of an axis: when they are accepted, and which refusal they give. Assumes nothing.
 use Prim.Native.Nat.{ℕ, ◌<◌, zero-le}
-use Rattle.std.proofs.Common.{◌-◌, leb, length, take}
+use Rattle.std.proofs.Common.{◌-◌, ◌∙◌, leb, length, take}
+use Rattle.std.specs.Borrow.{Bor}
+use Rattle.std.specs.Prelude.{Option, Some, None}
+use Rattle.std.specs.Option.{MatchOption}
 use borrow.Author.Tests.{le-leb, lt-leb}
 use Rattle.std.proofs.lemmas.List.{get_or-take}
 use mathlib.Core.Path.{◌≡◌, refl, sym, ap}
@@ -13,7 +16,7 @@ use Rattle.refusal.specs.Outcome.{Told, refusal, accepted, refused, refuse, requ
 use Rattle.grid.specs.Every.{every}
 use Rattle.grid.specs.Axis.{within, rises, axis_number, axis_numbers, valid_numbers}
 use Rattle.grid.specs.declared.Range.{Range}
-use Rattle.grid.specs.Counted.{CountedNumbers}
+use Rattle.grid.specs.Counted.{Counted, CountedNumbers}
 use Rattle.grid.proofs.Every.{and_false, and_fst, and_snd, every_at, every_of, every_same}
 use Rattle.refusal.proofs.Steps.{same_refusal}
 use Rattle.refusal.proofs.First.{first_all, first_of, first_found}
@@ -39,16 +42,22 @@ right_of_first range ns count i h =
     let before : get_or (take count ns) (i - 1) 0 ≡ get_or ns (i - 1) 0 = get_or-take count ns (i - 1) 0 (omega arith) in
     rw (here, before)
 
-pub counted_right : {places count : ℕ} {ns part : List ℕ} (range : Range) → CountedNumbers places ns count part
+counted_right : {places count : ℕ} {ns part : List ℕ} (range : Range) → CountedNumbers places ns count part
     → every (right_at range part) (length part) ≡ valid_numbers places range ns count
 unfolding valid_numbers
 counted_right {places} {count} {ns} {part} range c =
     rw (le-leb 2 count c.at_least, le-leb count places c.at_most, c.long, c.numbers) (every_same _ _ count (right_of_first range ns count))
 
-pub not_counted : (places : ℕ) (range : Range) (ns : List ℕ) (count : ℕ) → (count < 2) ⊎ (places < count) → false ≡ valid_numbers places range ns count
+not_counted : (places : ℕ) (range : Range) (ns : List ℕ) (count : ℕ) → (count < 2) ⊎ (places < count) → false ≡ valid_numbers places range ns count
 unfolding valid_numbers
 not_counted places range ns count (inl few) = rw (lt-leb 2 count few)
 not_counted places range ns count (inr many) = rw (lt-leb count places many) (sym (and_false (leb 2 count)))
+
+-- the test of the counted numbers, and false where there are none
+pub counted_tells : (places count : ℕ) (ns : List ℕ) {valid : Bool} (range : Range) (numbers : Option (Bor (List ℕ))) → Counted places ns count numbers
+    → MatchOption numbers (valid ≡ false) (λ part. valid ≡ every (right_at range part.now) (length part.now)) → valid ≡ valid_numbers places range ns count
+counted_tells places count ns range None c e = e ∙ not_counted places range ns count c
+counted_tells places count ns range (Some part) c e = e ∙ counted_right range c
 
 -- ---- one number
 pub number_right : (range : Range) (ns : List ℕ) (i : ℕ) → within range (get_or ns i 0) ≡ true → rises ns i ≡ true → axis_number range ns i ≡ accepted tt

@@ -184,13 +184,11 @@ pub fn counted<const N: usize>(axis: &Axis<N>) -> Option<&[u16]>
 fn axis_valid<const N: usize>(axis: &Axis<N>, range: Range) -> bool
     ensures { result ≡ valid_numbers N range axis.now.numbers axis.now.count }
 {
-    match counted(axis) {
-        None => false,
-        Some(numbers) => numbers_valid(numbers, range),
-    }
+    counted(axis).is_some_and(|numbers| numbers_valid(numbers, range))
 }
 
 // Whether a speed axis keeps its rules: 2 to 32 numbers, 1 to 3,000 rpm each, rising.
+#[tactic(auto, unfolding(crate::specs::Map::valid_speeds))]
 pub fn speeds_valid(axis: &SpeedAxis) -> bool
     ensures { result ≡ valid_speeds axis.now.numbers axis.now.count }
 {

@@ -19,6 +19,7 @@ pub struct Map<'a> {
 
 // The entries joined by `|`: at least each of them.
 // Both halves are joined at once, which is quicker; the middle one of an odd count stands in both.
+#[tactic(auto, using(crate::proofs::Bound::or_least))]
 fn joined(entries: &[u32]) -> u32
     ensures { EachIndex entries.now (λ k. slice_index entries.now k ≤ result) }
 {
@@ -55,6 +56,7 @@ pub fn entries_valid(entries: &[u32], count: usize) -> bool
 }
 
 // Whether what is lent is a map.
+#[tactic(auto, unfolding(grid::specs::Map::valid_map))]
 pub fn map_valid(grid: &Grid, entries: &[u32]) -> bool
     ensures { result ≡ valid_map grid.now entries.now }
 {

@@ -2,7 +2,6 @@
 #![tactic(auto, using(crate::proofs::Sets::texts), unfolding(grid::specs::Lists::joined, crate::specs::Listing::row, crate::specs::Listing::rows))]
 
 ghost use Rattle.std.specs.Prelude.{◌≡◌, ◌*◌, ◌≤◌, length};
-ghost use Rattle.refusal.specs.Outcome.{refusal};
 ghost use Rattle.refusal.specs.Table.{told, outcome_of};
 ghost use Rattle.buffer.specs.Written.{HasRoom, Appends, fitted, content_of};
 ghost use Rattle.listing.specs.Listing.{header as first_line, line, row, rows, refusal_line, listing, listed};
@@ -113,14 +112,14 @@ pub fn write(grid: &Grid, entries: &[u32], text: &mut [u8]) -> Result<usize, Ref
 }
 
 // Writes the line of a refusal.
-fn write_refusal_line(number: u8, place: usize, line: &mut Writer)
-    requires { HasRoom (length (refusal_line (refusal number place))) line.old }
-    ensures { Appends (refusal_line (refusal number place)) line.old line.new }
+fn write_refusal_line(x: Refusal, line: &mut Writer)
+    requires { HasRoom (length (refusal_line (told x))) line.old }
+    ensures { Appends (refusal_line (told x)) line.old line.new }
 {
     line.bytes(b"refused ");
-    line.decimal(usize::from(number));
+    line.decimal(usize::from(x.number()));
     line.bytes(b" at ");
-    line.decimal(place);
+    line.decimal(x.place());
     line.byte(b'\n');
 }
 
@@ -130,13 +129,12 @@ pub fn write_refusal(x: Refusal, text: &mut [u8]) -> Result<usize, Refusal>
     ensures text_after { text.new ≡ content_of (outcome_of result) (refusal_line (told x)) text.old }
     ensures short { length (refusal_line (told x)) ≤ 53 }
 {
-    let number = x.number();
-    let place = x.place();
-    let bytes_needed = 13 + buffer::digit_count(usize::from(number)) + buffer::digit_count(place);
+    let bytes_needed =
+        13 + buffer::digit_count(usize::from(x.number())) + buffer::digit_count(x.place());
     if text.len() < bytes_needed {
         return Err(Refusal::TooShort(bytes_needed));
     }
     let mut line = Writer { text, at: 0 };
-    write_refusal_line(number, place, &mut line);
+    write_refusal_line(x, &mut line);
     Ok(line.at)
 }

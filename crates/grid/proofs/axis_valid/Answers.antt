@@ -1,10 +1,7 @@
 -- `grid::axis_valid` meets its contract. Assumes nothing.
-use Rattle.std.proofs.Common.{◌∙◌}
-use Rattle.grid.proofs.Numbers.{counted_right, not_counted}
+use Rattle.std.proofs.Common.{rules, of_calls}
+use Rattle.grid.proofs.Numbers.{counted_tells}
 use Rattle.grid.proofs.axis_valid.Goals as goal
 
-pub returns-in-None : goal.returns-in-None
-returns-in-None g c = not_counted _ _ _ _ c.in-None.ensures
-
-pub returns-in-Some : goal.returns-in-Some
-returns-in-Some g c = c.numbers_valid.ensures ∙ counted_right _ c.in-Some.ensures
+pub returns : goal.returns
+returns g c = counted_tells _ _ _ _ c.counted.result c.counted.ensures (search (rules, of_calls))

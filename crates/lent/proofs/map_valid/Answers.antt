@@ -1,7 +1,5 @@
 -- `lent::map_valid` meets its contract. Assumes nothing.
 use Rattle.std.proofs.Common.{sym, ◌∙◌, arith}
-use Rattle.std.proofs.lemmas.Grind.{common_steps}
-use Rattle.grid.specs.Map.{valid_map}
 use Rattle.grid.proofs.Map.{grid_facts, points_most}
 use Rattle.lent.proofs.map_valid.Goals as goal
 
@@ -9,11 +7,3 @@ pub overflow_mul-grid : goal.overflow_mul-grid
 overflow_mul-grid c =
     let l = points_most c.args.grid.now (grid_facts _ (sym c.grid_valid.ensures ∙ c.if-grid_valid.true)) in
     record { fits = omega arith }
-
-pub returns-then-grid_valid : goal.returns-then-grid_valid
-unfolding valid_map
-returns-then-grid_valid c = grind (arith, common_steps)
-
-pub returns-else-grid_valid : goal.returns-else-grid_valid
-unfolding valid_map
-returns-else-grid_valid c = grind (arith, common_steps)

@@ -7,4 +7,4 @@ pub returns : goal.returns
 unfolding refusal_line
 returns c =
     let words = appends_then (appends_then c.bytes.ensures c.decimal.ensures) c.bytes-2.ensures in
-    rw c.from.ensures at (appends_then (appends_then words c.decimal-2.ensures) c.byte.ensures)
+    rw (c.from.ensures, c.number.ensures, c.place.ensures) at (appends_then (appends_then words c.decimal-2.ensures) c.byte.ensures)
