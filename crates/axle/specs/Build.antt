@@ -1,11 +1,25 @@
 -- What `axle_build` promises for all data and all lent entries, demand 3 among it.
-use Rattle.std.specs.Prelude.{ℕ, ◌≤◌, ◌≡◌, List, [], length, take}
+use Rattle.std.specs.Prelude.{ℕ, ◌≤◌, ◌≡◌, List, [], length, take, Result, Ok, Err}
 use Rattle.refusal.specs.Outcome.{Outcome, accepted, refused}
+use Rattle.refusal.specs.Table.{number, place}
+use Rattle.refusal.specs.declared.Refusal.{Refusal}
 use Rattle.grid.specs.Parts.{grid_of}
 use Rattle.grid.specs.declared.Grid.{Grid}
 use Rattle.map.specs.Build.{LossMap, build, content}
 use Rattle.accuracy.specs.Demand.{Accurate}
 use Rattle.axle.specs.declared.AxleBuilt.{AxleBuilt}
+
+-- the answer of a build: the axes of the map, or the refusal with counts of 0, whose numbers mean nothing
+abbrev pub BuiltOf : Result Grid Refusal → AxleBuilt → Type 0
+BuiltOf (Ok grid) b = b ≡ record {
+  refusal = 0;
+  place = 0;
+  speeds = grid.speeds.numbers;
+  speed_count = grid.speeds.count;
+  torques = grid.torques.numbers;
+  torque_count = grid.torques.count;
+}
+BuiltOf (Err x) b = (b.refusal ≡ number x) × (b.place ≡ place x) × (b.speed_count ≡ 0) × (b.torque_count ≡ 0)
 
 -- the number and the place of the refusal, 0 and 0 where the build accepts
 abbrev pub refusal_in : Outcome LossMap → ℕ

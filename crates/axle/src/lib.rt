@@ -12,7 +12,7 @@ ghost use Rattle.listing.specs.Listing.{listing, listed};
 ghost use Rattle.buffer.specs.Written.{content_of};
 ghost use Rattle.writer.specs.Written.{written, file_after};
 ghost use Rattle.axle.specs.Interface.{status_of, loss_of, nearest_of, length_of, numbers_in};
-ghost use Rattle.axle.specs.Build.{BuildsForC};
+ghost use Rattle.axle.specs.Build.{BuiltOf, BuildsForC};
 
 use cell::Point;
 use grid::{Axis, Grid};
@@ -100,6 +100,26 @@ fn status_of<T>(answer: &Result<T, Refusal>) -> Status
     }
 }
 
+impl From<Result<Grid, Refusal>> for AxleBuilt {
+    ghost from_gives = { λ answer built. BuiltOf answer built };
+
+    fn from(answer: Result<Grid, Refusal>) -> AxleBuilt {
+        let status = status_of(&answer);
+        let Grid { speeds, torques } = answer.unwrap_or_default();
+        // (an array goes from one struct into another by a local)
+        let speed_numbers = speeds.numbers;
+        let torque_numbers = torques.numbers;
+        AxleBuilt {
+            refusal: status.refusal,
+            place: status.place,
+            speeds: speed_numbers,
+            speed_count: speeds.count,
+            torques: torque_numbers,
+            torque_count: torques.count,
+        }
+    }
+}
+
 impl From<Result<i64, Refusal>> for AxleLoss {
     ghost from_gives = { λ answer loss. loss ≡ loss_of (outcome_of answer) };
 
@@ -182,19 +202,7 @@ impl From<AxleNumbers> for Numbers {
 pub fn axle_build(data: &[u8], entries: &mut [u32]) -> AxleBuilt
     ensures { BuildsForC «data».now entries.old entries.new result }
 {
-    let built = map::build(data, entries);
-    let status = status_of(&built);
-    let Grid { speeds, torques } = built.unwrap_or_default();
-    let speed_numbers = speeds.numbers;
-    let torque_numbers = torques.numbers;
-    AxleBuilt {
-        refusal: status.refusal,
-        place: status.place,
-        speeds: speed_numbers,
-        speed_count: speeds.count,
-        torques: torque_numbers,
-        torque_count: torques.count,
-    }
+    map::build(data, entries).into()
 }
 
 // The loss at a point of a map, speed in tenths of rpm and torque in hundredths of Nm.

@@ -17,7 +17,7 @@ static LENT_ENTRIES: [u32; 2048] = [0xA5A5_A5A5; 2048];
 static LENT_BYTES: [u8; 65_536] = [0xA5; 65_536];
 
 // So many torques of rows can be written.
-const MOST_ROWS: usize = 8192;
+const MOST_TORQUES: usize = 8192;
 
 // Why a case is not answered, or not to its end.
 #[derive(Drop)]
@@ -163,7 +163,7 @@ fn write_kept<T: PartialEq>(
 fn write_file(out: &mut impl Write, case: &Case) -> Result<(), Fault> {
     let mut body = case.body;
     let numbers = bytes::next_numbers(&mut body).ok_or(Fault::NoCase)?;
-    let mut rows = [0; MOST_ROWS];
+    let mut rows = [0; MOST_TORQUES];
     let torques = bytes::decode(body, &mut rows).ok_or(Fault::NoCase)?;
     let mut file = LENT_BYTES;
     let lent = file.get_mut(..case.room).ok_or(Fault::NoCase)?;
@@ -179,27 +179,27 @@ fn write_file(out: &mut impl Write, case: &Case) -> Result<(), Fault> {
     Ok(())
 }
 
-// Whether the numbers of data that was accepted, written again, are the same bytes.
+// Whether data that was accepted comes out the same when its numbers are written again.
 fn write_again(out: &mut impl Write, data: &[u8]) -> io::Result<()> {
-    match is_written_again(data) {
-        Some(true) => writeln!(out, "written again"),
-        _ => writeln!(out, "written otherwise"),
+    let mut file = LENT_BYTES;
+    if written_again(data, &mut file) == Some(data) {
+        writeln!(out, "written again")
+    } else {
+        writeln!(out, "written otherwise")
     }
 }
 
-// In just the room that the data needs.
-fn is_written_again(data: &[u8]) -> Option<bool> {
+// The numbers of data, written to a file that has just the room that the data needs. None where they are not written.
+fn written_again<'a>(data: &[u8], file: &'a mut [u8]) -> Option<&'a [u8]> {
     let component = component::read(data).ok()?;
-    let mut rows = [0; MOST_ROWS];
-    let row_bytes = match component.measured {
-        Some(measured) => measured.rows.bytes,
-        None => &data[..0],
-    };
+    let mut rows = [0; MOST_TORQUES];
+    let row_bytes = component
+        .measured
+        .map_or(&data[..0], |measured| measured.rows.bytes);
     let torques = bytes::decode(row_bytes, &mut rows)?;
-    let mut file = LENT_BYTES;
     let lent = file.get_mut(..data.len())?;
     let length = writer::write(&numbers_of(&component), torques, lent).ok()?;
-    Some(length == data.len() && &*lent == data)
+    lent.get(..length)
 }
 
 fn numbers_of(component: &Component) -> Numbers {

@@ -1,7 +1,5 @@
 // How answers are written.
 use component::{Component, Measured};
-use grid::Axis;
-use sensor::Sensor;
 use std::io::Write;
 use std::{fmt, io};
 
@@ -31,19 +29,15 @@ impl fmt::Display for Hexadecimal<'_> {
     }
 }
 
-fn write_axis<const N: usize>(out: &mut impl Write, name: &str, axis: &Axis<N>) -> io::Result<()> {
-    write!(out, " {name}{}", Spaced(axis.counted_numbers()))
-}
-
-fn write_sensor(out: &mut impl Write, name: &str, sensor: Sensor) -> io::Result<()> {
-    write!(out, " {name}{}", Spaced(&sensor.numbers()))
+fn write_numbers(out: &mut impl Write, name: &str, numbers: &[u16]) -> io::Result<()> {
+    write!(out, " {name}{}", Spaced(numbers))
 }
 
 fn write_measured(out: &mut impl Write, measured: &Measured) -> io::Result<()> {
-    write_sensor(out, "input", measured.input)?;
-    write_sensor(out, "output", measured.output)?;
+    write_numbers(out, "input", &measured.input.numbers())?;
+    write_numbers(out, "output", &measured.output.numbers())?;
     if let Some(right) = measured.right {
-        write_sensor(out, "right", right)?;
+        write_numbers(out, "right", &right.numbers())?;
     }
     let start = measured.rows.start;
     let end = start.saturating_add(measured.rows.bytes.len());
@@ -59,8 +53,8 @@ pub fn write_component(out: &mut impl Write, component: &Component) -> io::Resul
         measured,
     } = component;
     write!(out, "kind {kind} line {line} ratio {ratio}")?;
-    write_axis(out, "speeds", &grid.speeds)?;
-    write_axis(out, "torques", &grid.torques)?;
+    write_numbers(out, "speeds", grid.speeds.counted_numbers())?;
+    write_numbers(out, "torques", grid.torques.counted_numbers())?;
     if let Some(measured) = measured {
         write_measured(out, measured)?;
     }

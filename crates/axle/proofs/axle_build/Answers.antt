@@ -6,5 +6,4 @@ use Rattle.axle.proofs.axle_build.Goals as goal
 pub returns : goal.returns
 returns c =
     let are_bytes : AreBytes c.args.«data».now = λ i h. (c.type_inv.data i).fits in
-    rw c.status_of-status.ensures
-    (builds_for_c _ _ _ are_bytes _ (λ grid d. d) _ _ c.unwrap_or_default.ensures c.build-built.ensures)
+    builds_for_c _ _ _ are_bytes _ _ c.into.ensures c.build.ensures
