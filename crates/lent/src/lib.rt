@@ -26,8 +26,8 @@ fn joined(entries: &[u32]) -> u32
     let half = entries.len() / 2;
     let rest = entries.len() - half;
     let mut all = 0;
-    for i in 0..rest {
-        all |= entries[i] | entries[half + i];
+    for (first, second) in entries[..rest].iter().zip(&entries[half..]) {
+        all |= first | second;
     }
     all
 }
