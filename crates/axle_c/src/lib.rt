@@ -1,4 +1,5 @@
-// What libaxle.a exports, which include/axle.h declares: the functions of axle with their contracts.
+// What libaxle.a exports, which include/axle.h declares: the functions of axle with their contracts. (They stand here again, for
+// a crate is a library or a static library.)
 #![tactic(auto)]
 
 ghost use Rattle.std.specs.Prelude.{◌≡◌, length};

@@ -21,7 +21,7 @@ pub fn digit_count(n: usize) -> usize
     }
 }
 
-// A lent text, and the place in it where the next bytes go.
+// A lent text, and the place in it where the next bytes go. (Each write to an `io::Cursor` of std answers an `io::Result`.)
 #[derive(Drop)]
 pub struct Writer<'a> {
     pub text: &'a mut [u8],

@@ -243,7 +243,7 @@ pub fn read(data: &[u8]) -> Result<Component<'_>, Refusal>
 {
     let (axle, next) = read_axle(Cursor { data, at: 0 })?;
     let (grid, next) = read_axes(next)?;
-    let points = grid.speeds.count * grid.torques.count;
+    let points = grid.points();
     let (measured, next) = read_kind(next, axle.kind, points)?;
     let end = next.at;
     if end < data.len() {

@@ -60,7 +60,7 @@ impl Allowed {
     }
 }
 
-// How many bytes a field of one number has.
+// How many bytes a field of one number has. (No trait over `u8` and `u16`: either is read to a `u16`.)
 #[derive(Clone, Copy)]
 pub enum Width {
     One,
@@ -86,8 +86,8 @@ pub struct Cursor<'a> {
     pub at: usize,
 }
 
-// A field that was read: kind is the tag that stands there, value what its body says, start the place of the body's first byte,
-// and next the cursor past it.
+// A field that was read: kind is the tag that stands there, which document 01 wants beside the cursor, value what its body says,
+// start the place of the body's first byte, and next the cursor past it.
 #[derive(Clone, Copy)]
 pub struct Field<'a, T> {
     pub kind: u8,
@@ -110,9 +110,9 @@ impl<'a> Field<'a, &'a [u8]> {
     }
 }
 
-// Writes the numbers of an axis body to the first places of what is lent; place is where the body starts in the data,
-// apart from it here and below, for a `Field` would be taken apart at once. By a `match`, for the closure of a `map_err`
-// would have to say itself that the place fits.
+// Writes the numbers of an axis body to the first places of what is lent; place is where the body starts in the data. (The two
+// are handed on by themselves, here and below: of a `Field` only they would be read.) By a `match`, for the closure of a
+// `map_err` would have to say itself that the place fits.
 fn read_numbers(body: &[u8], place: usize, range: Range, numbers: &mut [u16]) -> Result<(), Refusal>
     requires { (length body.now ≤ length numbers.old * 2) × (place + length body.now < 2 ^ 64) }
     ensures { outcome_as (λ nothing. take (length body.now / 2) numbers.new) result ≡ axis range body.now place }

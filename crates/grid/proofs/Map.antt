@@ -51,10 +51,6 @@ pub grid_of_lem : (grid : Grid) → GridRules grid → valid_grid grid ≡ true
 unfolding valid_grid
 grid_of_lem grid f = rw (speed_of _ _ f.speeds) (torque_of _ _ f.torques f.step)
 
--- a grid has at most 2,048 points
-pub points_most : (grid : Grid) → GridRules grid → grid.speeds.count * grid.torques.count ≤ 2048
-points_most grid f = mul-le-mul f.speeds.at_most f.torques.at_most
-
 pub map_facts : (grid : Grid) (entries : List ℕ) → valid_map grid entries ≡ true → MapRules grid entries
 unfolding valid_map valid_entries
 map_facts grid entries e =

@@ -1,7 +1,7 @@
 // The two axes of a map, their rules, and what makes a map.
 #![tactic(auto)]
 
-ghost use Rattle.std.specs.Prelude.{◌≡◌, ◌&&◌, ◌<◌, ◌≤◌, length, get_or};
+ghost use Rattle.std.specs.Prelude.{◌≡◌, ◌&&◌, ◌*◌, ◌<◌, ◌≤◌, length, get_or};
 ghost use Rattle.refusal.specs.Outcome.{refusal};
 ghost use Rattle.refusal.specs.Table.{told};
 ghost use Rattle.grid.specs.Every.{every};
@@ -12,7 +12,7 @@ ghost use Rattle.grid.specs.Map.{counted_numbers, valid_speeds, valid_torques, v
 
 use refusal::Refusal;
 
-// The numbers that a place of the data may hold, both ends among them.
+// The numbers that a place of the data may hold, both ends among them. (`RangeInclusive` of std is not `Copy`.)
 #[derive(Clone, Copy)]
 pub struct Range {
     pub lowest: u16,
@@ -136,6 +136,16 @@ pub fn check_axis(numbers: &[u16], range: Range) -> Result<(), AxisFault>
         }
     }
     Ok(())
+}
+
+impl Grid {
+    // How many points it has, where neither axis counts more than its places.
+    pub fn points(&self) -> usize
+        ensures points { self.now.speeds.count ≤ 32 → self.now.torques.count ≤ 64 → result ≡ self.now.speeds.count * self.now.torques.count }
+        ensures at_most { self.now.speeds.count ≤ 32 → self.now.torques.count ≤ 64 → result ≤ 2048 }
+    {
+        self.speeds.count.saturating_mul(self.torques.count)
+    }
 }
 
 impl TorqueAxis {

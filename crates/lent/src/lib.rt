@@ -60,7 +60,7 @@ pub fn entries_valid(entries: &[u32], count: usize) -> bool
 pub fn map_valid(grid: &Grid, entries: &[u32]) -> bool
     ensures { result ≡ valid_map grid.now entries.now }
 {
-    grid::grid_valid(grid) && entries_valid(entries, grid.speeds.count * grid.torques.count)
+    grid::grid_valid(grid) && entries_valid(entries, grid.points())
 }
 
 #[tactic(auto, using(grid::proofs::Map::map_facts))]
@@ -82,7 +82,7 @@ impl Map<'_> {
     }
 }
 
-// The map that is lent, or 22.
+// The map that is lent, or 22: what was lent as two is one from here on.
 pub fn tested_map<'a>(grid: &'a Grid, entries: &'a [u32]) -> Result<Map<'a>, Refusal>
     ensures answer { outcome_as (λ map. tt) result ≡ require (valid_map grid.now entries.now) 22 0 }
     ensures same { IfOk result (λ map. (map.grid.now ≡ grid.now) × (map.entries.now ≡ entries.now)) }

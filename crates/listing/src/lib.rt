@@ -19,7 +19,8 @@ pub fn header() -> [u8; 17]
     *b"speed,torque,loss"
 }
 
-// How many bytes the line of one entry takes.
+// How many bytes the line of one entry takes. All bytes are counted before the first is written, for a listing that has no room
+// leaves the text as it was. (What is counted and what is written share the three numbers and nothing else.)
 fn line_length(speed: u16, torque: u16, loss: u32) -> usize
     ensures { (result ≡ length (line speed torque loss)) × (result ≤ 66) }
 {
@@ -96,7 +97,8 @@ fn write_listing(map: &Map, text: &mut Writer)
     }
 }
 
-// Writes the listing of a map from the start of the text, and answers its length. 22 is tested first, then 11, whose place is that length.
+// Writes the listing of a map from the start of the text, and answers its length. 22 is tested first, then 11, whose place is that
+// length. (Grid and entries are what a caller lends: a struct of the two would be made for each call and opened by the test.)
 pub fn write(grid: &Grid, entries: &[u32], text: &mut [u8]) -> Result<usize, Refusal>
     ensures answer { outcome_of result ≡ listed grid.now entries.now (length text.old) }
     ensures text_after { text.new ≡ content_of (outcome_of result) (listing grid.now entries.now) text.old }
@@ -129,8 +131,9 @@ pub fn write_refusal(x: Refusal, text: &mut [u8]) -> Result<usize, Refusal>
     ensures text_after { text.new ≡ content_of (outcome_of result) (refusal_line (told x)) text.old }
     ensures short { length (refusal_line (told x)) ≤ 53 }
 {
-    let bytes_needed =
-        13 + buffer::digit_count(usize::from(x.number())) + buffer::digit_count(x.place());
+    let bytes_needed = 13
+        + buffer::digit_count(usize::from(x.number()))
+        + buffer::digit_count(x.place());
     if text.len() < bytes_needed {
         return Err(Refusal::TooShort(bytes_needed));
     }

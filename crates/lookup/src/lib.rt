@@ -111,7 +111,8 @@ impl ScaledAxis<'_> {
     }
 }
 
-// The loss at a point in hundredths of Nm. 22 is tested first, then 20, then 21.
+// The loss at a point in hundredths of Nm. 22 is tested first, then 20, then 21. (Grid and entries are what a caller lends: a
+// struct of the two would be made for each call and opened by the test.)
 #[tactic(auto, using(crate::proofs::Axes::counts), unfolding(crate::specs::Loss::loss_answer))]
 pub fn loss(grid: &Grid, entries: &[u32], point: Point) -> Result<i64, Refusal>
     ensures { outcome_of result ≡ loss_answer grid.now entries.now point }

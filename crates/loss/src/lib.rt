@@ -84,7 +84,8 @@ pub struct FixedParts {
     pub parasitic: u64,
 }
 
-// A sensor's uncertainty in grains, step by step in the order of the annex: a, b, g, h and U.
+// A sensor's uncertainty in grains, step by step in the order of the annex: a, b, g, h and U. (The fixed parts stand among them, for
+// a reviewer to see the five side by side.)
 #[derive(Clone, Copy)]
 pub struct Steps {
     pub sensitivity: u64,

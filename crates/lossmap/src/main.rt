@@ -23,7 +23,7 @@ fn read_input<R: Read>(reader: &mut R, room: &mut [u8]) -> io::Result<usize>
     Ok(length)
 }
 
-// Writes what the proved function makes of the input; an error is what went wrong, in words.
+// Writes what the proved function makes of the input; an error is what went wrong, in words, for it is only printed.
 fn run(rt: &HostRuntime) -> Result<(), &'static str> {
     let mut input = [0u8; 32768];
     let mut entries = [0u32; 2048];

@@ -102,7 +102,7 @@ fn measured_check(numbers: &Numbers, kind: Kind, row_torque_count: usize) -> Res
         return Ok(());
     }
     sensors_check(numbers, kind)?;
-    let points = numbers.grid.speeds.count * numbers.grid.torques.count;
+    let points = numbers.grid.points();
     if row_torque_count != usize::from(kind.number()) * points {
         return Err(Refusal::WrongLength(0));
     }

@@ -52,7 +52,8 @@ fn near_axis(torque: u16, output: u32) -> bool
 }
 
 // The readings of a row. Where there is a right output, output is the left one. (It is no `Bench` of another type: its sensors
-// are right, while a bench takes any.)
+// are right, while a bench takes any. Its place is handed on beside it, for a refusal alone tells it; and one output or two are
+// told by `match`, for there is no list to go through.)
 #[derive(Clone, Copy)]
 pub struct Row<'a> {
     pub ratio: u16,

@@ -74,7 +74,7 @@ fn write_build(out: &mut impl Write, case: &Case) -> Result<(), Fault> {
     let lent = entries.get_mut(..case.entries).ok_or(Fault::NoCase)?;
     match map::build(case.body, lent) {
         Ok(grid) => {
-            let count = grid.speeds.count.saturating_mul(grid.torques.count);
+            let count = grid.points();
             write_kept(out, "entries", &entries, &LENT_ENTRIES, count)?;
             write_again(out, case.body)?;
             write_answers(out, case, &grid, &entries[..case.entries])
@@ -97,7 +97,7 @@ fn write_map(out: &mut impl Write, case: &Case) -> Result<(), Fault> {
     write_answers(out, case, &grid, lent)
 }
 
-// A map's listing in the lent text, and the answers to the questions.
+// A map's listing in the lent text, and the answers to the questions. (The grid and the entries, here and below, as they are lent.)
 fn write_answers(
     out: &mut impl Write,
     case: &Case,
@@ -202,6 +202,7 @@ fn written_again<'a>(data: &[u8], file: &'a mut [u8]) -> Option<&'a [u8]> {
     lent.get(..length)
 }
 
+// (No `From`: nothing but this program goes that way.)
 fn numbers_of(component: &Component) -> Numbers {
     let none = Sensor::from([0; 9]);
     let (input, output, right) = match component.measured {
