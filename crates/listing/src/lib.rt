@@ -44,7 +44,8 @@ fn write_line(speed: u16, torque: u16, loss: u32, text: &mut Writer)
     text.byte(b'\n');
 }
 
-// How many bytes the lines of one speed take.
+// How many bytes the lines of one speed take. By a loop: of `torques.iter().zip(losses).map(..).sum()` it proves that the sum
+// fits, but no proof was found that each call of the closure, which holds the speed, answers a line's length.
 fn row_length(speed: u16, torques: &[u16], losses: &[u32]) -> usize
     requires { (length torques.now ≤ 64) × (length torques.now ≤ length losses.now) }
     ensures { (result ≡ length (row speed torques.now (length torques.now) losses.now 0)) × (result ≤ 4224) }
@@ -68,7 +69,8 @@ fn write_row(speed: u16, torques: &[u16], losses: &[u32], text: &mut Writer)
     }
 }
 
-// How many bytes the listing of a map takes.
+// How many bytes the listing of a map takes. By a loop: in a `map` and `sum` the closure may not be called, for `row(i)` needs
+// i below the count, which a closure does not know of `enumerate`.
 fn listing_length(map: &Map) -> usize
     ensures { result ≡ length (listing map.now.grid.now map.now.entries.now) }
 {
@@ -126,8 +128,9 @@ pub fn write_refusal(x: Refusal, text: &mut [u8]) -> Result<usize, Refusal>
     ensures text_after { text.new ≡ content_of (outcome_of result) (refusal_line (told x)) text.old }
     ensures short { length (refusal_line (told x)) ≤ 53 }
 {
-    let bytes_needed =
-        13 + buffer::digit_count(usize::from(x.number())) + buffer::digit_count(x.place());
+    let bytes_needed = 13
+        + buffer::digit_count(usize::from(x.number()))
+        + buffer::digit_count(x.place());
     if text.len() < bytes_needed {
         return Err(Refusal::TooShort(bytes_needed));
     }
