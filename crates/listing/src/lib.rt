@@ -45,7 +45,8 @@ fn write_line(speed: u16, torque: u16, loss: u32, text: &mut Writer)
     text.byte(b'\n');
 }
 
-// How many bytes the lines of one speed take.
+// How many bytes the lines of one speed take. By a loop: of `torques.iter().zip(losses).map(..).sum()` it proves that the sum
+// fits, but no proof was found that each call of the closure, which holds the speed, answers a line's length.
 fn row_length(speed: u16, torques: &[u16], losses: &[u32]) -> usize
     requires { (length torques.now ≤ 64) × (length torques.now ≤ length losses.now) }
     ensures { (result ≡ length (row speed torques.now (length torques.now) losses.now 0)) × (result ≤ 4224) }
@@ -69,7 +70,8 @@ fn write_row(speed: u16, torques: &[u16], losses: &[u32], text: &mut Writer)
 }
 
 // How many bytes the listing of a map takes. By an index, here and below: of entries cut so it is known that they are as many
-// as the torques, and no line tests it; by a method of `Map` that gives a speed's entries a listing takes 10 % longer.
+// as the torques, and no line tests it; by a method of `Map` that gives a speed's entries a listing takes 10 % longer. By a loop,
+// for in a `map` and `sum` the closure does not know that i is below the count.
 fn listing_length(map: &Map) -> usize
     ensures { result ≡ length (listing map.now.grid.now map.now.entries.now) }
 {

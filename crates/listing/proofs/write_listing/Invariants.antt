@@ -1,5 +1,4 @@
 -- `listing::write_listing` meets its contract. Assumes nothing.
-use Rattle.std.proofs.Common.{◌≡◌, length}
 use Rattle.grid.specs.Lists.{joined}
 use Rattle.buffer.specs.Written.{Appends}
 use Rattle.listing.specs.Listing.{row_of_speed}
