@@ -1,5 +1,5 @@
 -- The rows of a listing, from the parts of its lists. Assumes nothing.
-use Rattle.std.proofs.Common.{◌≡◌, ◌<◌, ◌*◌, ℕ, List, length, get_or, take, drop, zero-add}
+use Rattle.std.proofs.Common.{◌≡◌, ◌<◌, ◌+◌, ◌-◌, ◌*◌, ℕ, List, arith, length, get_or, take, drop, zero-add}
 use Rattle.std.proofs.lemmas.List.{get_or-take, get_or-drop}
 use Rattle.grid.proofs.Lists.{joined_same}
 use Rattle.listing.specs.Listing.{row, row_of_speed}
