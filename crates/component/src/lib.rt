@@ -112,7 +112,8 @@ struct Axle {
     pub ratio: u16,
 }
 
-// Tags 1 to 3. Each run of fields gives what it says, and the cursor past it.
+// Tags 1 to 3; a tag stands here as the number that document 01 gives it. Each run of fields gives what it says, and the cursor
+// past it.
 #[tactic(auto, unfolding(crate::specs::Component::axle_fields))]
 fn read_axle(start: Cursor<'_>) -> Result<(Axle, Cursor<'_>), Refusal>
     ensures { RunOf start.entry axle_fields axle_of result }

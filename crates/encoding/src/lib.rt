@@ -118,7 +118,7 @@ fn write_measured(numbers: &Numbers, kind: Kind, rows: &[u32], file: &mut Writer
     write_field(component::rows_tag(kind.number()), rows, file);
 }
 
-// Lays out numbers that passed their tests, with the torques of their rows.
+// Lays out numbers that passed their tests, with the torques of their rows. A tag stands here as the number that document 01 gives it.
 pub fn encode(numbers: &Numbers, rows: &[u32], file: &mut Writer)
     requires passed { numbers_check numbers.now (length rows.now) ≡ accepted tt }
     requires room { HasRoom longest file.old }

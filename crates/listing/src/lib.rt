@@ -127,7 +127,8 @@ fn write_refusal_line(x: Refusal, line: &mut Writer)
     line.byte(b'\n');
 }
 
-// Writes the line of a refusal from the start of the text, or answers 11 with the bytes needed.
+// Writes the line of a refusal from the start of the text, or answers 11 with the bytes needed. (The test of room stands here and
+// in `write`: a helper would take the writing as a closure, which has to say what it writes.)
 pub fn write_refusal(x: Refusal, text: &mut [u8]) -> Result<usize, Refusal>
     ensures answer { outcome_of result ≡ fitted 11 (refusal_line (told x)) (length text.old) }
     ensures text_after { text.new ≡ content_of (outcome_of result) (refusal_line (told x)) text.old }

@@ -136,7 +136,7 @@ fn write_answer(
     Ok(())
 }
 
-// The text that was written, or the refusal.
+// The text that was written, or the refusal. (Each answer matches its own result, for each is written in other words.)
 fn write_text(out: &mut impl Write, length: Result<usize, Refusal>, text: &[u8]) -> io::Result<()> {
     match length {
         Ok(length) => out.write_all(&text[..length.min(text.len())]),
