@@ -148,6 +148,7 @@ fn read_axes(start: Cursor<'_>) -> Result<(Grid, Cursor<'_>), Refusal>
     Ok((grid, torques.next))
 }
 
+// The output sensors, on their way into `Measured`.
 #[derive(Clone, Copy)]
 struct Outputs {
     pub output: Sensor,

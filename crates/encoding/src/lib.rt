@@ -88,7 +88,7 @@ fn write_field<T: FieldNumber>(tag: u8, numbers: &[T], file: &mut Writer)
     }
 }
 
-// The sensors of a measured kind.
+// The sensors of a measured kind. (The kind, here and below, is that of the numbers, which `encode` found.)
 fn write_sensors(numbers: &Numbers, kind: Kind, file: &mut Writer)
     requires measured { 2 ≤ number_of kind }
     requires room { HasRoom 63 file.old }

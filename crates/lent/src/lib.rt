@@ -55,7 +55,7 @@ pub fn entries_valid(entries: &[u32], count: usize) -> bool
     joined(entries) <= LARGEST_ENTRY || none_too_large(entries)
 }
 
-// Whether what is lent is a map.
+// Whether what is lent is a map. (Grid and entries are what a caller lends; `Map` is what passed.)
 #[tactic(auto, unfolding(grid::specs::Map::valid_map))]
 pub fn map_valid(grid: &Grid, entries: &[u32]) -> bool
     ensures { result ≡ valid_map grid.now entries.now }

@@ -68,7 +68,8 @@ fn build_standard(component: &Component, speeds: usize, torques: &[u16], entries
     build_rows(&row, 0, torques.len(), speeds, entries);
 }
 
-// Measured entries: all rows are checked before the first entry is written.
+// Measured entries: all rows are checked before the first entry is written. (Rows, bench and torques as in `fill_rows`, and the
+// bench's sensors are right as they were read.)
 #[tactic(auto, using(crate::proofs::Copying::own_stretch, rows::proofs::RowParts::speed_size))]
 fn build_measured(
     rows: Rows,
@@ -101,6 +102,7 @@ fn build_entries(component: &Component, entries: &mut [u32]) -> Result<(), Refus
 {
     let speeds = component.grid.speeds.count;
     let torques = component.grid.torques.counted_numbers();
+    // (of a count and a slice, not `Grid::points`, for the rows are as many as these)
     let points = speeds * torques.len();
     if entries.len() < points {
         return Err(Refusal::TooShort(points));

@@ -78,7 +78,8 @@ fn sensor_check(sensor: Sensor) -> Result<(), Refusal>
     }
 }
 
-// The sensors of a measured kind.
+// The sensors of a measured kind. (The kind, here and below, is that of the numbers: a struct of both would be made and opened at
+// once.)
 #[tactic(auto, unfolding(crate::specs::Check::sensors_check))]
 fn sensors_check(numbers: &Numbers, kind: Kind) -> Result<(), Refusal>
     ensures { outcome_of result ≡ sensors_check (numbers.now.input ∷ outputs_of (number_of kind) numbers.now.output numbers.now.right) }

@@ -12,7 +12,7 @@ pub enum Kind {
 }
 
 impl Kind {
-    // (`TryFrom` would need an error that says nothing.)
+    // A case is told by a letter, and by its kind from here on. (`TryFrom` would need an error that says nothing.)
     fn from_letter(letter: u8) -> Option<Kind> {
         match letter {
             b'r' => Some(Kind::Read),

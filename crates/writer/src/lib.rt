@@ -11,7 +11,7 @@ use buffer::Writer;
 use numbers::Numbers;
 use refusal::Refusal;
 
-// Copies data to the first bytes of the file, where there is room for it.
+// Copies data to the first bytes of the file, where there is room for it. (`listing` has the same test for its own texts.)
 fn write_fitting(data: &[u8], file: &mut [u8]) -> Result<usize, Refusal>
     ensures answer { outcome_of result ≡ fitted 30 «data».now (length file.old) }
     ensures file_after { file.new ≡ content_of (outcome_of result) «data».now file.old }
