@@ -1,3 +1,4 @@
+-- `fields::read_numbers` meets its contract. Assumes nothing.
 use Rattle.std.proofs.Common.{◌<◌, ◌/◌, arith, length, refl}
 use Rattle.fields.proofs.Bodies.{axis_accepted, axis_refused, index_below}
 use Rattle.fields.proofs.read_numbers.Goals as goal

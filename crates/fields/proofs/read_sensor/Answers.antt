@@ -1,3 +1,4 @@
+-- `fields::read_sensor` meets its contract. Assumes nothing.
 use Rattle.std.proofs.Common.{◌<◌, arith, refl, ap, ◌∙◌}
 use Rattle.refusal.specs.Outcome.{accepted}
 use Rattle.fields.proofs.Sensors.{body_refused, body_read}

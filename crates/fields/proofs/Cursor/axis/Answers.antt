@@ -1,3 +1,4 @@
+-- `fields::Cursor::axis` meets its contract. Assumes nothing.
 use Rattle.std.proofs.Common.{ℕ, arith}
 use Rattle.std.proofs.lemmas.List.{length-replicate}
 use Rattle.std.proofs.lemmas.Result.{err_from_is_err_and}

@@ -1,3 +1,4 @@
+-- `fields::Cursor::field` meets its contract. Assumes nothing.
 use Rattle.std.proofs.Common.{refl, sym, ◌∙◌}
 use Rattle.fields.proofs.Heads.{no_bytes, incomplete, other_tag, not_allowed, past_end, whole}
 use Rattle.fields.proofs.Cursor.field.Goals as goal

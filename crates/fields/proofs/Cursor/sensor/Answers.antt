@@ -1,3 +1,4 @@
+-- `fields::Cursor::sensor` meets its contract. Assumes nothing.
 use Rattle.std.proofs.Common.{arith}
 use Rattle.std.proofs.lemmas.Result.{err_from_is_err_and}
 use Rattle.fields.proofs.Heads.{exact_body, head_refused, body_refused, body_accepted}
