@@ -43,11 +43,6 @@ module _ (check : ℕ → Outcome (Unit {0})) (f : ℕ → ℕ) (count : ℕ) (b
           written = w;
         }
 
-    pub all_filled : count ≤ i → now ≡ overwritten (tabulate f count) before
-    all_filled end =
-        let e : i ≡ count = omega (arith, p.passed.below) in
-        p.written ∙ rw (length_tabulate f count, e)
-
 -- ---- a tail `s[a..]` that was lent, and one that is back with ys in its place
 pub tail_lent : (a : ℕ) (xs : List ℕ) → take (length xs - a) (drop a xs) ≡ drop a xs
 tail_lent a xs = take_all (length xs - a) (drop a xs) (le_of_eq (length-drop a xs))
