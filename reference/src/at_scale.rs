@@ -1,23 +1,24 @@
-//! The cases of both comparisons at scale, `reference/compare` and `measure/compare`: the sequences of cases with writes among them.
+//! The cases of both comparisons at scale, `reference/compare` and `measure/compare`: the sequences of cases with writes and allowances among them.
 
 use crate::cases::{self, Case};
-use crate::write_cases;
+use crate::{allowance_cases, write_cases};
 
-/// A write is one case by chance in so many.
-const CASES_A_WRITE: u64 = 8;
+/// Of so many cases by chance one is a write, and one is of the allowances.
+const ROUND: u64 = 8;
 
 /// The cases that do not depend on chance alone.
 pub fn systematic(seed: u64) -> Vec<Case> {
     let mut all = cases::systematic(seed);
     all.extend(write_cases::systematic(seed));
+    all.extend(allowance_cases::systematic(seed));
     all
 }
 
-/// A case by chance, of a small map or a large one: by its number a write, or the case that it is without writes.
+/// A case by chance, of a small map or a large one: by its number a write, one of the allowances, or the case that it is without them.
 pub fn by_chance(seed: u64, number: u64) -> Case {
-    let of_number = match number % CASES_A_WRITE {
-        0 => write_cases::by_chance,
-        _ => cases::by_chance,
-    };
-    of_number(seed, number, true)
+    match number % ROUND {
+        0 => write_cases::by_chance(seed, number, true),
+        1 => allowance_cases::by_chance(seed, number),
+        _ => cases::by_chance(seed, number, true),
+    }
 }

@@ -129,7 +129,7 @@ pub fn room_for(source: &mut Source, needed: usize) -> usize {
 }
 
 /// A build of valid data with questions to its map.
-fn asked_build(source: &mut Source, data: &Data, question_count: usize) -> Case {
+pub fn asked_build(source: &mut Source, data: &Data, question_count: usize) -> Case {
     let bytes = data.bytes();
     let Ok(map) = map::build(&bytes, MOST_ENTRIES) else {
         return Case::of_data(bytes);

@@ -1,5 +1,6 @@
-//! Document 01, "Accuracy over whole numbers", over three kinds (request C-11):
-//! exact entries, exact losses at points, and the check of the limits of demand 3.
+//! Document 01, "Accuracy over whole numbers", over three kinds (request C-11) and
+//! with the allowance of document 02, C-13: exact entries, exact losses at points,
+//! and the check of the limits of demand 3.
 //!
 //! All exact entries of one component stand over one denominator. A root that
 //! is not a whole number over it is held between two neighbouring ones.
@@ -375,7 +376,7 @@ fn denominators(sensors: &[&Sensor]) -> Wide {
 /// root's denominator, because loss and allowance come in those parts.
 fn measured_entry(ratio: u16, row: &Row, root_denominator: Wide, root: &Bracket) -> Bracket {
     let loss = loss::measured_loss(ratio, row).expect("the build accepts the component");
-    let allowance = root_denominator * loss::allowance(loss);
+    let allowance = root_denominator * loss::allowance(ratio, loss);
     let entry = |root: Wide| {
         let above_allowance = (root * 20_000).max(allowance) - allowance;
         root_denominator * (20 * loss) + above_allowance

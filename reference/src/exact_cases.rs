@@ -1,4 +1,4 @@
-//! Fixed cases of document 01, "Accuracy over whole numbers": single entries, and two fractions around the exact value of each.
+//! Fixed cases of document 01, "Accuracy over whole numbers", with the allowance of document 02, C-13: single entries, and two fractions around the exact value of each.
 
 use crate::component;
 use crate::data::{Data, Field};
@@ -26,7 +26,7 @@ pub struct StandardCase {
 }
 
 /// Every influence of all sensors is at work, and no part is a whole number of grains.
-/// The root is above an allowance of 1 Nm in the first three, above 5 % of the loss in the next two, and below it in the last.
+/// The root is above an allowance of 1 Nm times the ratio in the first three, above 5 % of the loss in the next two, and below it in the last.
 pub const MEASURED: [MeasuredCase<2>; 6] = [
     MeasuredCase {
         ratio: 1_637,
@@ -79,7 +79,7 @@ pub const MEASURED: [MeasuredCase<2>; 6] = [
 ];
 
 /// The same with the output measured at two half-shafts: input, left and right sensor.
-/// The root is above an allowance of 1 Nm in the first two, above 5 % of the loss in the next two, and below it in the last.
+/// The root is above an allowance of 1 Nm times the ratio in the first two, above 5 % of the loss in the next two, and below it in the last.
 pub const HALF_SHAFTS: [MeasuredCase<3>; 5] = [
     MeasuredCase {
         ratio: 1_483,
@@ -100,22 +100,22 @@ pub const HALF_SHAFTS: [MeasuredCase<3>; 5] = [
         torques: [173_273, 390_851, 522_156],
     },
     MeasuredCase {
-        ratio: 3_617,
+        ratio: 3_275,
         sensors: [
-            [3_219, 648, 361, 843, 3_711, 382, 498, 423, 62],
-            [7_166, 972, 352, 621, 1_614, 649, 293, 433, 69],
-            [4_015, 4_717, 2_727, 4_399, 6_478, 959, 378, 133, 82],
+            [3_554, 256, 161, 834, 4_008, 119, 712, 441, 33],
+            [6_806, 884, 918, 2_221, 5_421, 411, 712, 107, 36],
+            [5_855, 892, 471, 2_057, 4_449, 1_653, 343, 298, 54],
         ],
-        torques: [182_228, 436_176, 218_141],
+        torques: [244_606, 478_624, 311_825],
     },
     MeasuredCase {
-        ratio: 9_413,
+        ratio: 9_767,
         sensors: [
-            [2_837, 1_236, 697, 144, 1_344, 357, 245, 265, 93],
-            [12_923, 492, 589, 1_123, 5_346, 372, 347, 394, 64],
-            [11_467, 757, 457, 724, 1_529, 2_338, 236, 149, 12],
+            [2_292, 687, 424, 1_631, 5_223, 342, 513, 356, 75],
+            [14_762, 345, 167, 3_825, 7_996, 714, 423, 368, 28],
+            [10_084, 435, 1_125, 705, 1_998, 1_686, 276, 163, 43],
         ],
-        torques: [192_698, 1_127_527, 676_438],
+        torques: [177_412, 759_273, 949_174],
     },
     MeasuredCase {
         ratio: 14_629,

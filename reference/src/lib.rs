@@ -1,6 +1,7 @@
 //! Second implementation of document 01, "Axle loss maps", with requests C-11, two
-//! half-shaft sensors, and C-12, writing component data, of document 02; written
-//! from these papers alone. It renders the whole of them, for checks by running.
+//! half-shaft sensors, C-12, writing component data, and C-13, the newton metre of
+//! the allowance at the input, of document 02; written from these papers alone. It
+//! renders the whole of them, for checks by running.
 //! Beside it: traces of single numbers; a generator of component data and
 //! questions, and what it takes to compare the answers with those of the proved
 //! libraries; cases whose exact entries are printed; and the examples.
@@ -19,6 +20,8 @@ pub mod command;
 pub mod numerals;
 pub mod trace;
 
+pub mod allowance_cases;
+pub mod allowances;
 pub mod at_scale;
 pub mod bench_run;
 pub mod cases;

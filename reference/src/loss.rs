@@ -1,5 +1,5 @@
 //! Document 01, "Standard loss" and "Measured loss", the latter over one output
-//! sensor or over two (request C-11).
+//! sensor or over two (request C-11) and with the allowance of document 02, C-13.
 
 use crate::component::{Measured, Row, Sensor};
 
@@ -205,8 +205,10 @@ pub const PARTS: u128 = 20_000;
 /// A grain is the hundredth part of a hundredth of Nm.
 pub const PARTS_OF_A_GRAIN: u128 = PARTS / 100;
 
-/// 1 Nm, in the same parts.
-pub const LEAST_ALLOWANCE: u128 = 100 * PARTS;
+/// 1 Nm at the input as it is at the wheel under this ratio, in the same parts.
+pub fn newton_metre_at_wheel(ratio: u16) -> u128 {
+    100 * PARTS * u128::from(ratio) / 1_000
+}
 
 /// The steps of a measured row's entry, or None when its loss is under zero.
 pub fn measured_steps(ratio: u16, measured: &Measured, row: &Row) -> Option<MeasuredSteps> {
@@ -220,7 +222,7 @@ pub fn measured_steps(ratio: u16, measured: &Measured, row: &Row) -> Option<Meas
         .collect();
     let of_outputs = outputs.iter().map(|steps| steps.uncertainty);
     let loss_uncertainty = uncertainty_steps(input.uncertainty, ratio, of_outputs);
-    let allowance = allowance(loss);
+    let allowance = allowance(ratio, loss);
     let in_parts = PARTS_OF_A_GRAIN * loss_uncertainty.uncertainty;
     let above_allowance = in_parts.saturating_sub(allowance);
     Some(MeasuredSteps {
@@ -255,9 +257,10 @@ pub fn five_percent(loss: u128) -> u128 {
     loss
 }
 
-/// The allowance of a loss in thousandths of a hundredth of Nm, in `PARTS`.
-pub(crate) fn allowance(loss: u128) -> u128 {
-    five_percent(loss).max(LEAST_ALLOWANCE)
+/// Document 02, C-13: the allowance of a loss in thousandths of a hundredth of
+/// Nm, in `PARTS`.
+pub(crate) fn allowance(ratio: u16, loss: u128) -> u128 {
+    five_percent(loss).max(newton_metre_at_wheel(ratio))
 }
 
 /// The root of a whole number, rounded up to a whole number.

@@ -1,5 +1,6 @@
 //! What a case is answered by the rules, as the text that `vectors` writes; and a tally of what was seen.
 
+use crate::allowances::Allowances;
 use crate::cases::Case;
 use crate::component::{self, Component, Kind};
 use crate::exact::{ExactMap, Verdict};
@@ -74,6 +75,7 @@ pub struct Seen {
     pub places: BTreeMap<u8, BTreeSet<usize>>,
     /// Maps built, by the number of their kind.
     pub maps: BTreeMap<u8, u64>,
+    pub allowances: Allowances,
     /// Maps built whose data, written again, has other bytes.
     pub written_otherwise: u64,
     pub losses: u64,
@@ -161,6 +163,7 @@ fn build_reply(
     };
     let component = component::read(data).expect("a build accepts only what reads");
     *seen.maps.entry(component.kind.number()).or_default() += 1;
+    seen.allowances.add(&component);
     let exact = ExactMap::new(&component);
     check_entries(&exact, &built, seen);
     let mut lent_entries = built.entries.clone();

@@ -7,12 +7,13 @@ use crate::questions::Question;
 use crate::random::Source;
 use crate::reply::{reply, Excess, Seen, Writes};
 use crate::writer::HandedNumbers;
-use crate::{valid, write_cases};
+use crate::{allowance_cases, valid, write_cases};
 use std::fmt;
 
 const SEED: u64 = 20_172_400;
 const CASES_BY_CHANCE: u64 = 2_500;
 const WRITES_BY_CHANCE: u64 = 240;
+const ALLOWANCES_BY_CHANCE: u64 = 100;
 
 /// Chosen among many: its data is accepted, no number of a sensor is 0, and most entries differ from each other.
 const MAP_PROGRAM_CASE: u64 = 8_283;
@@ -112,16 +113,23 @@ fn hand_case((letter, bytes): (char, Vec<u8>)) -> Case {
     }
 }
 
-/// All stored cases, in their order. The writes are behind all others, which thereby stay as they were before there were writes.
+/// All stored cases, in their order. Those of a later request are behind all others, which thereby stay as they were before it: the writes of C-12, then the allowances of C-13.
 pub fn stored_cases() -> Vec<Case> {
-    let by_hand = written_by_hand().into_iter().map(hand_case);
-    let (mut cases, writes): (Vec<Case>, _) = by_hand.partition(|case| case.letter() != 'w');
+    let mut cases: Vec<Case> = written_by_hand().into_iter().map(hand_case).collect();
+    let is_write = |case: &Case| case.letter() == 'w';
+    let behind_writes = cases.iter().rposition(is_write).map_or(0, |last| last + 1);
+    let allowances = cases.split_off(behind_writes);
+    let writes = cases.split_off(cases.iter().position(is_write).unwrap_or(cases.len()));
     cases.extend(systematic(SEED));
     cases.extend((0..CASES_BY_CHANCE).map(|number| by_chance(SEED, number, false)));
     cases.extend(writes);
     cases.extend(write_cases::systematic(SEED));
     let write = |number| write_cases::by_chance(SEED, number, false);
     cases.extend((0..WRITES_BY_CHANCE).map(write));
+    cases.extend(allowances);
+    cases.extend(allowance_cases::systematic(SEED));
+    let allowance = |number| allowance_cases::by_chance(SEED, number);
+    cases.extend((0..ALLOWANCES_BY_CHANCE).map(allowance));
     cases
 }
 
@@ -170,6 +178,7 @@ pub fn missing(seen: &Seen) -> Vec<String> {
         let count = seen.writes.refused_with(number);
         counts.push((format!("writes refused with {number}"), count));
     }
+    counts.extend(seen.allowances.counts());
     let too_few = counts.iter().filter(|(_, count)| *count < 20);
     missing.extend(too_few.map(|(name, count)| format!("{name}: {count}")));
     missing
@@ -229,6 +238,7 @@ impl fmt::Display for Seen {
             }
         }
         writeln!(f, "maps built: {}", by_kind(|kind| self.maps_of(kind)))?;
+        self.allowances.fmt(f)?;
         writeln!(
             f,
             "data of these maps written again with other bytes: {}",

@@ -134,36 +134,49 @@ fn measurement(
     for _ in 0..speeds {
         for torque in torques {
             let (input, output) = row(source, ratio, u64::from(*torque), highest);
-            let mut torques = vec![input];
-            torques.extend(parts(source, output, outputs));
-            rows.push(torques);
+            rows.push(row_torques(source, input, output, outputs));
         }
     }
-    let mut sensors: Vec<[u16; 9]> = (0..=outputs).map(|_| sensor(source)).collect();
-    for (place, sensor) in sensors.iter_mut().enumerate() {
-        let largest = rows.iter().map(|row| row[place]).max().unwrap_or(0);
-        sensor[0] = nominal(source, largest);
-    }
-    let rows = rows
-        .iter()
-        .map(|row| row.iter().map(|torque| *torque as u32).collect())
-        .collect();
-    (sensors, rows)
+    (sensors(source, &rows), rows)
 }
 
-/// Data of a kind with so many speeds and torques. A very uncertain sensor may still bring an entry above the limit (10).
-pub fn data_of(source: &mut Source, kind: u8, speed_count: usize, torque_count: usize) -> Data {
+/// The torques of a row with this input and this output torque, the latter in parts.
+pub fn row_torques(source: &mut Source, input: u64, output: u64, outputs: u64) -> Vec<u32> {
+    let mut torques = vec![input as u32];
+    let parts = parts(source, output, outputs);
+    torques.extend(parts.into_iter().map(|part| part as u32));
+    torques
+}
+
+/// A sensor for each torque of the rows.
+pub fn sensors(source: &mut Source, rows: &[Vec<u32>]) -> Vec<[u16; 9]> {
+    let mut sensors: Vec<[u16; 9]> = rows[0].iter().map(|_| sensor(source)).collect();
+    for (place, sensor) in sensors.iter_mut().enumerate() {
+        let largest = rows.iter().map(|row| row[place]).max().unwrap_or(0);
+        sensor[0] = nominal(source, largest.into());
+    }
+    sensors
+}
+
+/// A ratio, often a round one or an end of the range.
+pub fn ratio(source: &mut Source) -> u16 {
     let ratio = match source.below(3) {
         0 => source.one_of(&[1_000, 2_000, 3_000, 5_000, 20_000]),
         _ => source.with_ends(1_000, 20_000),
     };
+    ratio as u16
+}
+
+/// Data of a kind with so many speeds and torques. A very uncertain sensor may still bring an entry above the limit (10).
+pub fn data_of(source: &mut Source, kind: u8, speed_count: usize, torque_count: usize) -> Data {
+    let ratio = ratio(source);
     let torques = torques(source, torque_count);
     let line = source.between(1, 5) as u8;
     let speeds = speeds(source, speed_count);
-    let mut fields = Field::of_every_kind(kind, line, ratio as u16, &speeds, &torques);
+    let mut fields = Field::of_every_kind(kind, line, ratio, &speeds, &torques);
     if let Some(tags) = measured_tags(kind) {
         let outputs = tags.outputs.len() as u64;
-        let (sensors, rows) = measurement(source, outputs, ratio, speed_count, &torques);
+        let (sensors, rows) = measurement(source, outputs, ratio.into(), speed_count, &torques);
         fields.extend(Field::of_measurement(kind, &sensors, &rows));
     }
     Data::of(fields)

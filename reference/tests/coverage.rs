@@ -1,7 +1,7 @@
 //! The stored cases have what they must have: the ends of every range, the largest grids, questions of every kind, and for kind 3 each refusal at every kind of place.
 
 use reference::cases::Case;
-use reference::component::{self, Component, Kind, Sensor};
+use reference::component::{self, Component, Kind, Row, Sensor};
 use reference::data::SENSOR_RANGES;
 use reference::listing::MOST_ENTRIES;
 use reference::loss::measured_steps;
@@ -113,6 +113,54 @@ fn expect_rows_at_their_limits(all: &[Component]) {
         let nominal = sensors(c).first().map_or(0, |s| u64::from(s.nominal));
         has_row(c, |_, _, input, _| input == 100 * nominal)
     });
+}
+
+/// By how many units 5 % of the loss is larger than 1 Nm times the ratio, at most two either way, in each row whose uncertainty is above both. They are reckoned in 20,000 parts of a hundredth of Nm.
+fn differences(component: &Component, unit: i64) -> Vec<i64> {
+    let Kind::Measured(measured) = &component.kind else {
+        return Vec::new();
+    };
+    let ratio = i64::from(component.ratio);
+    let difference = |row: &Row| {
+        let output: i64 = row.outputs.iter().copied().map(i64::from).sum();
+        // A thousandth of a hundredth has 20 parts, and 5 % of it one.
+        let five_percent = i64::from(row.input) * ratio - 1_000 * output;
+        let at_wheel = 100 * 20 * ratio;
+        let steps = measured_steps(component.ratio, measured, row).unwrap();
+        // A grain has 200 parts.
+        let uncertainty = 200 * steps.loss_uncertainty.uncertainty as i64;
+        let units = (five_percent - at_wheel) / unit;
+        (uncertainty > five_percent.max(at_wheel)).then_some(units.clamp(-2, 2))
+    };
+    measured.rows.iter().filter_map(difference).collect()
+}
+
+type OfRatio = fn(u16) -> bool;
+
+#[test]
+fn rows_of_both_allowances_are_accepted() {
+    let all = accepted();
+    // A unit is the least step of the loss: a hundredth at both ends of the ratio's range, a thousandth of it where the ratio is no multiple of 2 or 5.
+    let ratios: [(&str, OfRatio, i64); 3] = [
+        ("1.000", |ratio| ratio == 1_000, 1_000),
+        (
+            "between",
+            |ratio| !ratio.is_multiple_of(2) && !ratio.is_multiple_of(5),
+            1,
+        ),
+        ("20.000", |ratio| ratio == 20_000, 1_000),
+    ];
+    for kind in [2, 3] {
+        for (name, is_ratio, unit) in &ratios {
+            let of_ratio = all.iter().filter(|c| c.kind.number() == kind);
+            let of_ratio = of_ratio.filter(|c| is_ratio(c.ratio));
+            let found: Vec<i64> = of_ratio.flat_map(|c| differences(c, *unit)).collect();
+            for due in -2..=2 {
+                let count = found.iter().filter(|units| **units == due).count();
+                assert!(count >= 20, "kind {kind}, ratio {name}, {due}: {count}");
+            }
+        }
+    }
 }
 
 /// Whether a row of accepted data of kind 3 has this of its axis torque in hundredths of Nm, and of its left and its right torque.
@@ -431,7 +479,7 @@ fn the_map_program_is_given_the_largest_data() {
         .filter(|steps| steps.above_allowance > 0)
         .count();
     let different: BTreeSet<&u32> = built.entries.iter().collect();
-    assert_eq!((above, different.len()), (1_792, 1_929));
+    assert_eq!((above, different.len()), (1_792, 1_934));
     assert!(written.starts_with(b"speed,torque,loss\n"));
     assert_eq!(written.iter().filter(|byte| **byte == b'\n').count(), 2_049);
 }

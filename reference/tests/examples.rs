@@ -4,7 +4,7 @@ use reference::component::{self, Component, Kind, Measured};
 use reference::examples::files;
 use reference::listing::report;
 use reference::lookup::{loss, Axis, LentMap};
-use reference::loss::{measured_steps, MeasuredSteps, LEAST_ALLOWANCE};
+use reference::loss::{measured_steps, newton_metre_at_wheel, MeasuredSteps};
 use reference::map::{self, Map};
 use reference::numerals::read_decimal;
 use reference::trace;
@@ -190,12 +190,13 @@ fn the_small_files_byte_for_byte() {
     let refused = rows("000084D0000186A00001869F000493E0");
     assert_eq!(digits(&file("refused.axle")), refused);
     let listing =
-        "speed,torque,loss\n100,1000,29.00\n100,3000,300.00\n200,1000,29.00\n200,3000,300.00\n";
+        "speed,torque,loss\n100,1000,27.00\n100,3000,300.00\n200,1000,27.00\n200,3000,300.00\n";
+    // Losses 20.00 and 300.00 Nm, and 10.00 Nm less 3.00, 1 Nm x 3.000, and 15.00, 5 %.
     assert_eq!(text("measured.csv"), listing);
     assert_eq!(digits(&file("half-shafts.axle")), HALF_SHAFTS);
-    // Losses 20.00, 60.00, 33.00 and 300.00 Nm, and 9.00 Nm less 1.00, 3.00, 1.65 and 15.00.
+    // Losses 20.00, 60.00, 33.00 and 300.00 Nm, and 9.00 Nm less 3.00 three times, 1 Nm x 3.000, and 15.00, 5 %.
     let listing =
-        "speed,torque,loss\n100,1000,28.00\n100,3000,66.00\n200,1000,40.35\n200,3000,300.00\n";
+        "speed,torque,loss\n100,1000,26.00\n100,3000,66.00\n200,1000,39.00\n200,3000,300.00\n";
     assert_eq!(text("half-shafts.csv"), listing);
     assert_eq!(text("refused.refusal"), "refused 9 at 80\n");
 }
@@ -237,8 +238,25 @@ fn the_uncertainty_is_above_the_allowance_in_half_of_the_entries() {
     let steps = all_steps();
     let above = steps.iter().filter(|steps| steps.above_allowance > 0);
     assert_eq!((above.count(), steps.len()), (146, 273));
-    // The axle loses more than 20 Nm everywhere: 1 Nm is never the allowance.
-    assert!(steps.iter().all(|steps| steps.allowance > LEAST_ALLOWANCE));
+}
+
+#[test]
+fn both_allowances_occur_in_the_bench_run() {
+    let (component, _) = bench_run();
+    let (steps, count) = (all_steps(), component.torques.len());
+    // Up to 2,000 Nm the axle may lose less than 20 Nm x 3.727, 74.54 Nm: 1 Nm x 3.727 is the allowance there, and the uncertainty is above it.
+    let mut of_ratio = Vec::new();
+    for (index, steps) in steps.iter().enumerate() {
+        assert_eq!(
+            steps.loss < 7_454_000,
+            steps.allowance == newton_metre_at_wheel(3_727)
+        );
+        if steps.loss < 7_454_000 {
+            assert!(component.torques[index % count] <= 2_000 && steps.above_allowance > 0);
+            of_ratio.push(steps);
+        }
+    }
+    assert_eq!((of_ratio.len(), steps.len()), (51, 273));
 }
 
 #[test]
@@ -384,6 +402,6 @@ fn points_with_negative_answers() {
             negative += usize::from(answer(&text) < 0);
         }
     }
-    // The line through 29.00 Nm at 1,000 Nm and 300.00 Nm at 3,000 Nm is at zero near 786 Nm.
-    assert_eq!(negative, 3 * 16);
+    // The line through 27.00 Nm at 1,000 Nm and 300.00 Nm at 3,000 Nm is at zero near 802 Nm.
+    assert_eq!(negative, 3 * 17);
 }

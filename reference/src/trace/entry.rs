@@ -1,4 +1,4 @@
-//! The trace of one entry: document 01, "Standard loss" or "Measured loss", with the numbers put in.
+//! The trace of one entry: document 01, "Standard loss" or "Measured loss" with the allowance of document 02, C-13, with the numbers put in.
 
 use super::{Lines, NoTrace};
 use crate::component::{self, output_place, Component, Kind, Measured, Row, Sensor};
@@ -289,8 +289,11 @@ impl Traced<'_> {
         );
         let five_percent = hundredths(loss::five_percent(steps.loss));
         lines.add("5 % of it", format!("{five_percent} hundredths"));
-        let least = hundredths(loss::LEAST_ALLOWANCE);
-        lines.add("1 Nm", format!("{least} hundredths"));
+        let at_wheel = hundredths(loss::newton_metre_at_wheel(self.component.ratio));
+        lines.add(
+            "1 Nm × ratio",
+            format!("100 × {ratio} = {at_wheel} hundredths"),
+        );
     }
 
     fn add_entry(&self, lines: &mut Lines, entry: u128) {

@@ -27,10 +27,10 @@ fn worked_entries_are_exact() {
     for (numbers, entry) in [
         (calibrated(110_000), 30_000),
         (calibrated(102_000), 6_700),
-        (calibrated(100_000), 900),
+        (calibrated(100_000), 700),
         (half_shafts([102_000, 200_000, 100_000]), 6_600),
-        (half_shafts([100_000, 0, 300_000]), 800),
-        (half_shafts([102_000, 150_500, 150_000]), 6_125),
+        (half_shafts([100_000, 0, 300_000]), 600),
+        (half_shafts([102_000, 150_500, 150_000]), 6_100),
     ] {
         let map = exact(&numbers);
         for speed_index in 0..2 {
@@ -44,26 +44,40 @@ fn worked_entries_are_exact() {
 }
 
 #[test]
+fn the_allowance_of_an_exact_entry() {
+    // Losses 59.97, 60.00 and 60.03 Nm, and 10.00 Nm less the allowance: 3.00 Nm
+    // twice, 1 Nm x 3.000, then 5 % of the loss, 3.0015 Nm; hence 67.0285 Nm.
+    for (input, entry, excess) in [
+        (101_999, 6_697, 0),
+        (102_000, 6_700, 0),
+        (102_001, 6_703, 150_000),
+    ] {
+        let map = exact(&calibrated(input));
+        assert_eq!(map.check_entry(0, 0, entry), verdict(true, excess));
+    }
+}
+
+#[test]
 fn limits_of_answers() {
-    // Exact entries 900 at 3,000 Nm and 60,000 at 6,000 Nm.
+    // Exact entries 700 at 3,000 Nm and 60,000 at 6,000 Nm.
     let map = exact(&calibrated(100_000));
     assert_eq!(map.check_entry(0, 1, 60_000), verdict(true, 0));
-    // At 4,500 Nm in the middle of the speeds: 30,450.
+    // At 4,500 Nm in the middle of the speeds: 30,350.
     let check = |answer| map.check_answer(1_500, 450_000, answer);
-    assert_eq!(check(30_449), verdict(false, -1_000_000));
-    assert_eq!(check(30_450), verdict(true, 0));
-    assert_eq!(check(30_452), verdict(true, 2_000_000));
-    assert_eq!(check(30_453), verdict(false, 3_000_000));
+    assert_eq!(check(30_349), verdict(false, -1_000_000));
+    assert_eq!(check(30_350), verdict(true, 0));
+    assert_eq!(check(30_352), verdict(true, 2_000_000));
+    assert_eq!(check(30_353), verdict(false, 3_000_000));
     // At the first torque the lower limit is still met without loss.
-    assert!(!map.check_answer(1_000, 300_000, 899).holds);
-    assert!(map.check_answer(1_000, 300_000, 900).holds);
-    assert!(!map.check_answer(1_000, 300_000, 903).holds);
-    // At 0 Nm: 2 x 900 - 60,000.
+    assert!(!map.check_answer(1_000, 300_000, 699).holds);
+    assert!(map.check_answer(1_000, 300_000, 700).holds);
+    assert!(!map.check_answer(1_000, 300_000, 703).holds);
+    // At 0 Nm: 2 x 700 - 60,000.
     let check = |answer| map.check_answer(2_000, 0, answer);
-    assert_eq!(check(-58_202), verdict(false, -2_000_000));
-    assert_eq!(check(-58_201), verdict(true, -1_000_000));
-    assert_eq!(check(-58_196), verdict(true, 4_000_000));
-    assert_eq!(check(-58_195), verdict(false, 5_000_000));
+    assert_eq!(check(-58_602), verdict(false, -2_000_000));
+    assert_eq!(check(-58_601), verdict(true, -1_000_000));
+    assert_eq!(check(-58_596), verdict(true, 4_000_000));
+    assert_eq!(check(-58_595), verdict(false, 5_000_000));
 }
 
 #[test]
@@ -87,7 +101,7 @@ fn standard_excess() {
 #[test]
 fn an_irrational_root() {
     // h is 10,000 grains: the root is 20,000 / root of 3 = 11,547.00538379...
-    // grains, 15.4700538379... hundredths above 1 Nm.
+    // grains, 15.4700538379... hundredths above 1 Nm x 1.000.
     let influenced = [1_000, 0, 0, 0, 1_000, 1_000, 1_000, 0, 10];
     let rows = [[0, 0], [1_000, 1_000]];
     let sensors = [influenced, quiet_sensor(100)];
@@ -103,14 +117,14 @@ fn an_irrational_root() {
 #[test]
 fn each_part_has_its_factor() {
     // w, z and c in turn; the root in grains by hand, under a ratio of 2. The
-    // excess of 0, rounded up, is 100 Nm less the root.
+    // excess of 0, rounded up, is 2.00 Nm, 1 Nm x 2.000, less the root.
     // a: 10,000 x 100 x 10,000 / (100,000 x 10) = 10,000, root 40,000 / r3.
     // b: 1,000 x 100 x 1,000 / (1,000 x 10) = 10,000, the same.
     // g: 1,000 x 1,000 x 10 / 1,000 = 10,000, root 40,000.
     let sensors = [
-        ([1_000, 10_000, 0, 0, 1_000, 0, 0, 100, 10], 130_940_107),
-        ([1_000, 0, 1_000, 0, 1_000, 0, 0, 100, 10], 130_940_107),
-        ([1_000, 0, 0, 1_000, 1_000, 0, 0, 0, 10], 300_000_000),
+        ([1_000, 10_000, 0, 0, 1_000, 0, 0, 100, 10], 30_940_107),
+        ([1_000, 0, 1_000, 0, 1_000, 0, 0, 100, 10], 30_940_107),
+        ([1_000, 0, 0, 1_000, 1_000, 0, 0, 0, 10], 200_000_000),
     ];
     for (sensor, above) in sensors {
         // Input 100.00 Nm, output 200.00 Nm, no loss.
@@ -124,7 +138,7 @@ fn each_part_has_its_factor() {
             [sensor[0], 0, 0, 2_000, 1_000, 0, 0, 0, 10],
         ];
         let map = exact(&Numbers::measured(2_000, &[200, 400], pair, &rows));
-        assert_eq!(map.check_entry(0, 0, 300), verdict(true, 0));
+        assert_eq!(map.check_entry(0, 0, 200), verdict(true, 0));
     }
 }
 
@@ -155,15 +169,15 @@ fn each_side_has_its_own_square() {
 
 #[test]
 fn a_wide_rounding() {
-    // The exact value is near 1,125.309: well over a hundredth is rounding.
-    let sensor = [2_676, 5_700, 52, 178, 6_893, 47, 545, 356, 72];
-    let rows = [[2_452, 47_970], [5_000, 96_300]];
+    // The exact value is near 1,306.264: well over a hundredth is rounding.
+    let sensor = [4_474, 9_848, 54, 784, 7_444, 309, 325, 422, 18];
+    let rows = [[2_432, 47_931], [5_000, 96_300]];
     let pair = [sensor, quiet_sensor(50_000)];
     let numbers = Numbers::measured(19_905, &[480, 963], pair, &rows);
-    assert_eq!(numbers.build().unwrap().entries[0], 1_127);
+    assert_eq!(numbers.build().unwrap().entries[0], 1_308);
     let map = exact(&numbers);
-    assert_eq!(map.check_entry(0, 0, 1_127), verdict(true, 1_690_967));
-    assert_eq!(map.check_entry(0, 0, 1_128), verdict(false, 2_690_967));
+    assert_eq!(map.check_entry(0, 0, 1_308), verdict(true, 1_736_488));
+    assert_eq!(map.check_entry(0, 0, 1_309), verdict(false, 2_736_488));
 }
 
 /// The least whole number above the exact value, and its excess, by the places
@@ -181,20 +195,20 @@ fn all_parts_at_all_sensors() {
     expect_exact(
         &largest(2),
         [
-            (0, 0, 5_401, 54_905),
-            (0, 5, 5_713, 177_317),
-            (0, 63, 18_264, 603_733),
-            (20, 31, 34_713, 841_777),
+            (0, 0, 3_511, 554_905),
+            (0, 5, 3_823, 677_317),
+            (0, 63, 16_441, 278_483),
+            (20, 31, 34_104, 770_277),
             (31, 63, 55_903, 162_878),
         ],
     );
     expect_exact(
         &largest(3),
         [
-            (0, 0, 6_419, 328_617),
-            (0, 5, 6_705, 92_128),
-            (0, 63, 18_606, 702_532),
-            (20, 31, 35_299, 924_730),
+            (0, 0, 4_529, 828_617),
+            (0, 5, 4_815, 592_128),
+            (0, 63, 16_783, 377_282),
+            (20, 31, 34_690, 853_230),
             (31, 63, 56_243, 957_163),
         ],
     );

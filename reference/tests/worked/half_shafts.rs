@@ -1,5 +1,5 @@
 //! Kind 3, the output measured at two half-shafts: cases reckoned by hand from
-//! request C-11.
+//! requests C-11 and C-13.
 
 use crate::support::*;
 use reference::component::{self, Kind, Measured};
@@ -51,7 +51,7 @@ fn small_uncertainties_of_data() {
     assert_eq!(outputs, [2, 4]);
     assert_eq!(steps.loss_uncertainty.sum_of_squares, 24);
     assert_eq!(steps.loss_uncertainty.uncertainty, 5);
-    // Far below 1 Nm: the entries are the losses.
+    // Far below 1 Nm x 1.000: the entries are the losses.
     assert_eq!(numbers.build().unwrap().entries, [100; 4]);
 }
 
@@ -59,8 +59,8 @@ fn small_uncertainties_of_data() {
 fn entries() {
     // 1,020.00 x 3 - 3,000.00 is 60.00 Nm; 9.00 Nm is 6.00 Nm above 5 % of it.
     assert_eq!(entry([102_000, 200_000, 100_000]), Ok(6_600));
-    // No loss: 9.00 Nm is 8.00 Nm above 1 Nm.
-    assert_eq!(entry([100_000, 200_000, 100_000]), Ok(800));
+    // No loss: 9.00 Nm is 6.00 Nm above 1 Nm x 3.000.
+    assert_eq!(entry([100_000, 200_000, 100_000]), Ok(600));
     // 300.00 Nm, and 9.00 Nm is below 5 % of it.
     assert_eq!(entry([110_000, 200_000, 100_000]), Ok(30_000));
     let numbers = half_shafts([99_999, 200_000, 100_000]);
@@ -70,9 +70,10 @@ fn entries() {
 #[test]
 fn the_sum_stands_against_the_axis_torque() {
     let place = half_shafts([0; 3]).rows_start() + 4;
-    // 3,060.00 - 3,005.00 is 55.00 Nm; 9.00 - 2.75 is 6.25 Nm.
-    assert_eq!(entry([102_000, 150_000, 150_500]), Ok(6_125));
-    assert_eq!(entry([102_000, 150_500, 150_000]), Ok(6_125));
+    // 3,060.00 - 3,005.00 is 55.00 Nm, 5 % of it 2.75 Nm, below 1 Nm x 3.000; 9.00 -
+    // 3.00 is 6.00 Nm.
+    assert_eq!(entry([102_000, 150_000, 150_500]), Ok(6_100));
+    assert_eq!(entry([102_000, 150_500, 150_000]), Ok(6_100));
     assert_eq!(entry([102_000, 150_000, 150_501]), refused(8, place));
     assert_eq!(entry([102_000, 150_501, 150_000]), refused(8, place));
     // 3,060.00 - 2,995.00 is 65.00 Nm; 9.00 - 3.25 is 5.75 Nm.
@@ -146,7 +147,7 @@ fn each_side_has_its_own_torque_and_sensor() {
         let numbers = Numbers::measured(1_000, &[400, 800], sensors, &rows);
         numbers.build().unwrap().entries[..2].to_vec()
     };
-    // 34,641.02 grains are 34,642: 246.42 hundredths above 1 Nm. At 0 none are.
+    // 34,641.02 grains are 34,642: 246.42 hundredths above 1 Nm x 1.000. At 0 none are.
     assert_eq!(with(warm, quiet), [247, 0]);
     // 11,547.01 are 11,548: 15.48. 92,376.04 are 92,377: 823.77.
     assert_eq!(with(quiet, warm), [16, 824]);

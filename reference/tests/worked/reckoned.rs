@@ -1,4 +1,5 @@
-//! "Reckoned by hand", "Wrong turns" and "The map program".
+//! "Reckoned by hand", with the allowance of document 02, C-13, "Wrong turns" and
+//! "The map program".
 
 use crate::support::*;
 use reference::component;
@@ -101,13 +102,62 @@ fn parts_are_rounded_up() {
 
 #[test]
 fn measured_losses() {
-    for (input, entry) in [(110_000, 30_000), (102_000, 6_700), (100_000, 900)] {
+    // 10.00 Nm above 15.00, 3.00 and 3.00 Nm: the last is 1 Nm x 3.000, and the
+    // middle one 5 % of 60.00 Nm as well.
+    for (input, entry) in [(110_000, 30_000), (102_000, 6_700), (100_000, 700)] {
         let map = calibrated(input).build().unwrap();
         assert_eq!(map.entries[0], entry);
         assert_eq!(map.entries[2], entry);
     }
     let numbers = calibrated(99_999);
     assert_eq!(numbers.build(), refused(9, numbers.rows_start()));
+}
+
+/// The sensors of "Reckoned by hand" under another ratio: the entry for this input
+/// torque and 3,000.00 Nm.
+fn entry_under(ratio: u16, input: u32) -> u32 {
+    let mut numbers = calibrated(input);
+    numbers.ratio = ratio;
+    // No loss under zero at 6,000 Nm.
+    for row in [1, 3] {
+        numbers.rows[row][0] = 600_000_000_u32.div_ceil(ratio.into());
+    }
+    numbers.build().unwrap().entries[0]
+}
+
+#[test]
+fn the_newton_metre_at_the_ends_of_the_ratio() {
+    // U 20,000 x 1.000 and 80,000: the root of 6,800,000,000 is 82,462.1, hence
+    // 82,463 grains: 824.63 hundredths, 724.63 of them above 1 Nm.
+    assert_eq!(loss_uncertainty(20_000, 1_000, &[80_000]), 82_463);
+    assert_eq!(entry_under(1_000, 300_000), 725);
+    // 20,000 x 20.000 and 80,000: the root of 166,400,000,000 is 407,921.6, hence
+    // 407,922 grains: 4,079.22 hundredths, 2,079.22 of them above 20 Nm.
+    assert_eq!(loss_uncertainty(20_000, 20_000, &[80_000]), 407_922);
+    assert_eq!(entry_under(20_000, 15_000), 2_080);
+}
+
+#[test]
+fn each_allowance_on_its_own_side() {
+    // 5 % of the loss and 1 Nm x 3.000 are both 3.00 Nm at 60.00 Nm. 3 Nm are
+    // 6,000,000 parts; 5 % of 59.40, 59.97, 60.00, 60.03 and 60.60 Nm are 5,940,000,
+    // 5,997,000, 6,000,000, 6,003,000 and 6,060,000. The loss and 10.00 Nm less the
+    // allowance: 66.40, 66.97, 67.00, 67.0285 and 67.57 Nm.
+    for (input, allowance, entry) in [
+        (101_980, 6_000_000, 6_640),
+        (101_999, 6_000_000, 6_697),
+        (102_000, 6_000_000, 6_700),
+        (102_001, 6_003_000, 6_703),
+        (102_020, 6_060_000, 6_757),
+    ] {
+        let component = component::read(&calibrated(input).bytes()).unwrap();
+        let component::Kind::Measured(measured) = component.kind else {
+            panic!("measured data");
+        };
+        let steps = measured_steps(3_000, &measured, &measured.rows[0]).unwrap();
+        assert_eq!(steps.allowance, allowance);
+        assert_eq!(entry_under(3_000, input), entry);
+    }
 }
 
 #[test]

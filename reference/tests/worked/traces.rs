@@ -45,7 +45,7 @@ loss uncertainty  100,000 grains: 100,000 × 100,000 = 10,000,000,000, at least 
 one less          99,999 × 99,999 = 9,999,800,001, below 10,000,000,000
 measured loss     110,000 × 3.000 - 300,000 = 30,000.000 hundredths
 5 % of it         1,500.00000 hundredths
-1 Nm              100.00000 hundredths
+1 Nm × ratio      100 × 3.000 = 300.00000 hundredths
 allowance         1,500.00000 hundredths, the larger of the two
 above allowance   1,000.00000 (100,000 grains) is not above 1,500.00000: 0.00000 hundredths
 unrounded entry   30,000.000 + 0.00000 = 30,000.00000 hundredths
@@ -104,7 +104,7 @@ loss uncertainty  90,000 grains: 90,000 × 90,000 = 8,100,000,000, at least 8,10
 one less          89,999 × 89,999 = 8,099,820,001, below 8,100,000,000
 measured loss     102,000 × 3.000 - 300,000 = 6,000.000 hundredths
 5 % of it         300.00000 hundredths
-1 Nm              100.00000 hundredths
+1 Nm × ratio      100 × 3.000 = 300.00000 hundredths
 allowance         300.00000 hundredths, the larger of the two
 above allowance   900.00000 (90,000 grains) - 300.00000 = 600.00000 hundredths
 unrounded entry   6,000.000 + 600.00000 = 6,600.00000 hundredths
@@ -158,13 +158,13 @@ fn last_steps(input: u32) -> String {
 }
 
 #[test]
-fn the_uncertainty_above_five_percent() {
+fn the_uncertainty_above_both_alike() {
     assert_eq!(
         last_steps(102_000),
         "\
 measured loss     102,000 × 3.000 - 300,000 = 6,000.000 hundredths
 5 % of it         300.00000 hundredths
-1 Nm              100.00000 hundredths
+1 Nm × ratio      100 × 3.000 = 300.00000 hundredths
 allowance         300.00000 hundredths, the larger of the two
 above allowance   1,000.00000 (100,000 grains) - 300.00000 = 700.00000 hundredths
 unrounded entry   6,000.000 + 700.00000 = 6,700.00000 hundredths
@@ -175,18 +175,35 @@ listing           line 2: 100,3000,67.00
 }
 
 #[test]
-fn the_uncertainty_above_one_newton_metre() {
+fn the_uncertainty_above_five_percent() {
+    assert_eq!(
+        last_steps(102_001),
+        "\
+measured loss     102,001 × 3.000 - 300,000 = 6,003.000 hundredths
+5 % of it         300.15000 hundredths
+1 Nm × ratio      100 × 3.000 = 300.00000 hundredths
+allowance         300.15000 hundredths, the larger of the two
+above allowance   1,000.00000 (100,000 grains) - 300.15000 = 699.85000 hundredths
+unrounded entry   6,003.000 + 699.85000 = 6,702.85000 hundredths
+entry             6,703 hundredths, rounded up once, = 67.03 Nm
+listing           line 2: 100,3000,67.03
+"
+    );
+}
+
+#[test]
+fn the_uncertainty_above_the_newton_metre_at_the_wheel() {
     assert_eq!(
         last_steps(100_000),
         "\
 measured loss     100,000 × 3.000 - 300,000 = 0.000 hundredths
 5 % of it         0.00000 hundredths
-1 Nm              100.00000 hundredths
-allowance         100.00000 hundredths, the larger of the two
-above allowance   1,000.00000 (100,000 grains) - 100.00000 = 900.00000 hundredths
-unrounded entry   0.000 + 900.00000 = 900.00000 hundredths
-entry             900 hundredths, rounded up once, = 9.00 Nm
-listing           line 2: 100,3000,9.00
+1 Nm × ratio      100 × 3.000 = 300.00000 hundredths
+allowance         300.00000 hundredths, the larger of the two
+above allowance   1,000.00000 (100,000 grains) - 300.00000 = 700.00000 hundredths
+unrounded entry   0.000 + 700.00000 = 700.00000 hundredths
+entry             700 hundredths, rounded up once, = 7.00 Nm
+listing           line 2: 100,3000,7.00
 "
     );
 }
@@ -269,7 +286,8 @@ fn the_parts_together() {
 
 #[test]
 fn thousandths_of_a_hundredth() {
-    // 2,001 x 1.001 - 1,500 = 503.001; a twentieth of it is 25.15005.
+    // 2,001 x 1.001 - 1,500 = 503.001; a twentieth of it is 25.15005, and 100 x
+    // 1.001 is 100.1.
     let rows = [[2_001, 1_500], [200_000, 200_000]];
     let sensors = [quiet_sensor(3_000); 2];
     let numbers = Numbers::measured(1_001, &[15, 2_000], sensors, &rows);
@@ -277,6 +295,8 @@ fn thousandths_of_a_hundredth() {
     let loss = "2,001 × 1.001 - 1,500 = 503.001 hundredths";
     assert_eq!(steps(&text, "measured loss"), [loss]);
     assert_eq!(steps(&text, "5 % of it"), ["25.15005 hundredths"]);
+    let at_wheel = "100 × 1.001 = 100.10000 hundredths";
+    assert_eq!(steps(&text, "1 Nm × ratio"), [at_wheel]);
     let unrounded = "503.001 + 0.00000 = 503.00100 hundredths";
     assert_eq!(steps(&text, "unrounded entry"), [unrounded]);
     let rounded = "504 hundredths, rounded up once, = 5.04 Nm";
@@ -361,7 +381,7 @@ answer            14,021 hundredths, rounded up once, = 140.21 Nm
 
 #[test]
 fn a_point_below_the_first_torque() {
-    // Entries 900 at 3,000 Nm and 60,000 at 6,000 Nm; at 0 Nm twice the one less the other.
+    // Entries 700 at 3,000 Nm and 60,000 at 6,000 Nm; at 0 Nm twice the one less the other.
     let numbers = calibrated(100_000);
     let text = point(&numbers.bytes(), 2_000, 0).unwrap();
     let continued = "0.00 Nm is below the first torque: the line from 6,000 Nm to 3,000 Nm goes on";
@@ -373,13 +393,13 @@ fn a_point_below_the_first_torque() {
     let weight =
         "200 rpm, 6,000 Nm: 1,000 / 1,000 × -300,000 / 300,000 = -300,000,000 / 300,000,000";
     assert_eq!(steps(&text, "weight")[3], weight);
-    let sum = "-17,460,000,000,000 / 300,000,000, the four together";
+    let sum = "-17,580,000,000,000 / 300,000,000, the four together";
     assert_eq!(steps(&text, "weighted sum"), [sum]);
-    let answer = "-58,200 hundredths, rounded up once, = -582.00 Nm";
+    let answer = "-58,600 hundredths, rounded up once, = -586.00 Nm";
     assert_eq!(steps(&text, "answer"), [answer]);
     assert_eq!(
         loss(&lent(&numbers.build().unwrap()), 2_000, 0),
-        Ok(-58_200)
+        Ok(-58_600)
     );
     // From the first torque on, nothing is continued.
     let text = point(&numbers.bytes(), 2_000, 300_000).unwrap();
