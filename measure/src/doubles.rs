@@ -75,7 +75,8 @@ fn measured_entry<const OUTPUTS: usize>(
     }
     let loss = input * ratio - output;
     let uncertainty = squares.sqrt().ceil() / 1e4;
-    let entry = hundredths_up(loss + (uncertainty - (0.05 * loss).max(1.0)).max(0.0));
+    let allowance = (0.05 * loss).max(ratio);
+    let entry = hundredths_up(loss + (uncertainty - allowance).max(0.0));
     let right = measured && (output - torque).abs() <= 5.0 && loss >= 0.0 && entry <= 1e5;
     right.then_some(entry)
 }

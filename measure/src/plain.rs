@@ -149,7 +149,8 @@ fn measured_entry<const OUTPUTS: usize>(
         squares += at_output * at_output;
     }
     let uncertainty = root_up(squares);
-    let above = (200 * uncertainty).saturating_sub(loss.max(2_000_000));
+    let allowance = loss.max(2_000 * ratio);
+    let above = (200 * uncertainty).saturating_sub(allowance);
     let entry = (20 * loss + above).div_ceil(20_000);
     (entry <= u64::from(LARGEST_ENTRY)).then_some(entry as u32)
 }

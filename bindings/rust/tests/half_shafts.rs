@@ -44,23 +44,23 @@ fn refused<T>(number: u32, place: usize) -> Result<T, Refusal> {
     Err(Refusal { number, place })
 }
 
-/// At 1,000 Nm and 100 rpm 20.00 Nm are lost, with an allowance of 1.00 Nm: 28.00 Nm. Had left and
-/// right been rounded up together before the input joins them, it would be 28.01 Nm. At 200 rpm
-/// 33.00 Nm are lost, with an allowance of 1.65 Nm, and then 300.00 Nm, with one of 15.00 Nm.
+/// At 1,000 Nm and 100 rpm 20.00 Nm are lost, with an allowance of 1 Nm × 3.000, 3.00 Nm: 26.00 Nm.
+/// Had left and right been rounded up together before the input joins them, it would be 26.01 Nm. At
+/// 200 rpm 33.00 Nm are lost, with the same allowance, and then 300.00 Nm, with one of 15.00 Nm.
 #[test]
 fn the_example() {
     let map = Map::build(HALF_SHAFTS).expect("accepted");
     assert_eq!(map.speeds(), [100, 200]);
     assert_eq!(map.torques(), [1_000, 3_000]);
-    assert_eq!(map.entries(), [2_800, 6_600, 4_035, 30_000]);
+    assert_eq!(map.entries(), [2_600, 6_600, 3_900, 30_000]);
     let listing =
-        "speed,torque,loss\n100,1000,28.00\n100,3000,66.00\n200,1000,40.35\n200,3000,300.00\n";
+        "speed,torque,loss\n100,1000,26.00\n100,3000,66.00\n200,1000,39.00\n200,3000,300.00\n";
     assert_eq!(map.listing(), Ok(listing.to_string()));
-    assert_eq!(map.loss(1_000, 200_000), Ok(4_700));
-    // 4,700 and 17,017.5 hundredths at the two speeds: 10,858.75 between them.
-    assert_eq!(map.loss(1_500, 200_000), Ok(10_859));
-    // 4,035 less a quarter of 25,965: -2,456.25 hundredths, rounded towards plus infinity.
-    assert_eq!(map.loss(2_000, 50_000), Ok(-2_456));
+    assert_eq!(map.loss(1_000, 200_000), Ok(4_600));
+    // 4,601 and 16,956.525 hundredths at the two speeds: 10,778.7625 between them.
+    assert_eq!(map.loss(1_500, 200_050), Ok(10_779));
+    // 3,900 less 499.90 Nm at 13.05 each: -2,623.695 hundredths, rounded towards plus infinity.
+    assert_eq!(map.loss(2_000, 50_010), Ok(-2_623));
     assert_eq!(map.loss(999, 200_000), refused(20, 0));
     assert_eq!(map.loss(1_000, 300_001), refused(21, 0));
     assert_eq!(map.nearest(1_500, 200_000), Ok((100, 1_000)));
@@ -71,15 +71,15 @@ fn the_example() {
 fn losses() {
     // 60.00 Nm, and 9.00 Nm of uncertainty with an allowance of 3.00 Nm.
     assert_eq!(entry([102_000, 200_000, 100_000]), Ok(6_600));
-    // Nothing, and 9.00 Nm with an allowance of 1.00 Nm.
-    assert_eq!(entry([100_000, 200_000, 100_000]), Ok(800));
+    // Nothing, and 9.00 Nm with an allowance of 3.00 Nm.
+    assert_eq!(entry([100_000, 200_000, 100_000]), Ok(600));
     assert_eq!(entry([99_999, 200_000, 100_000]), refused(9, SECOND_ROW));
 }
 
 #[test]
 fn left_and_right_are_set_against_the_axis_together() {
-    // 55.00 Nm with an allowance of 2.75 Nm, and 65.00 Nm with one of 3.25 Nm.
-    assert_eq!(entry([102_000, 150_000, 150_500]), Ok(6_125));
+    // 55.00 Nm with an allowance of 3.00 Nm, and 65.00 Nm with one of 3.25 Nm.
+    assert_eq!(entry([102_000, 150_000, 150_500]), Ok(6_100));
     assert_eq!(entry([102_000, 149_500, 150_000]), Ok(7_075));
     let off_axis = refused(8, SECOND_ROW + 4);
     for (left, right) in [
@@ -127,7 +127,7 @@ fn sums_beyond_four_bytes() {
 
 /// A torque axis ends at 50,000 Nm, and so does what one sensor measures; two of them together may
 /// be 5.00 Nm above. With N 50,000 at each, V is 300,000 grains, W and W' are 100,000, and the loss
-/// uncertainty is 331,663 grains, 33.17 Nm: of it 1.00 Nm is allowed without a loss, and all of it
+/// uncertainty is 331,663 grains, 33.17 Nm: of it 3.00 Nm are allowed without a loss, and all of it
 /// where 995.00 Nm are lost.
 #[test]
 fn more_than_one_sensor_can_have() {
@@ -148,7 +148,7 @@ fn more_than_one_sensor_can_have() {
     }
     let map = Map::build(&data).expect("accepted");
     assert_eq!(map.torques(), [0, 50_000]);
-    assert_eq!(map.entries(), [3_217, 99_500, 3_217, 99_500]);
+    assert_eq!(map.entries(), [3_017, 99_500, 3_017, 99_500]);
     put_row(&mut data, SECOND_ROW, [1_700_000, 5_000_000, 501]);
     assert_eq!(Map::build(&data), refused(8, SECOND_ROW + 4));
     put_row(&mut data, SECOND_ROW, [1_700_000, 5_000_001, 0]);
@@ -251,5 +251,5 @@ fn what_is_lent() {
     assert_eq!(build(&data, &mut entries), refused(9, ROWS + 36));
     assert_eq!(entries, [7; 6]);
     build(HALF_SHAFTS, &mut entries).expect("accepted");
-    assert_eq!(entries, [2_800, 6_600, 4_035, 30_000, 7, 7]);
+    assert_eq!(entries, [2_600, 6_600, 3_900, 30_000, 7, 7]);
 }

@@ -60,26 +60,26 @@ fn measured_losses() {
     let loss = |input| Map::build(&measured(input)).map(|map| map.entries()[1]);
     assert_eq!(loss(110_000), Ok(30_000));
     assert_eq!(loss(102_000), Ok(6_700));
-    assert_eq!(loss(100_000), Ok(900));
+    assert_eq!(loss(100_000), Ok(700));
     let (number, place) = (9, SECOND_ROW);
     assert_eq!(loss(99_999), Err(Refusal { number, place }));
 }
 
 /// At 1,000 Nm the example has 340.00 Nm in: a loss of 20.00 Nm with 10.00 Nm of uncertainty, of
-/// which 1.00 Nm is allowed. From there to 3,000 Nm it rises by 271.00 Nm, and so falls below zero
+/// which 3.00 Nm are allowed. From there to 3,000 Nm it rises by 273.00 Nm, and so falls below zero
 /// towards 0 Nm.
 #[test]
 fn the_measured_example() {
     let map = Map::build(MEASURED).expect("accepted");
     assert_eq!(map.speeds(), [100, 200]);
     assert_eq!(map.torques(), [1_000, 3_000]);
-    assert_eq!(map.entries(), [2_900, 30_000, 2_900, 30_000]);
-    assert_eq!(map.loss(1_500, 100_000), Ok(2_900));
-    assert_eq!(map.loss(1_500, 200_000), Ok(16_450));
-    assert_eq!(map.loss(1_500, 0), Ok(-10_650));
-    // -13.25 and -0.3775 hundredths, rounded towards plus infinity.
-    assert_eq!(map.loss(1_500, 78_500), Ok(-13));
-    assert_eq!(map.loss(1_500, 78_595), Ok(0));
+    assert_eq!(map.entries(), [2_700, 30_000, 2_700, 30_000]);
+    assert_eq!(map.loss(1_500, 100_000), Ok(2_700));
+    assert_eq!(map.loss(1_500, 200_000), Ok(16_350));
+    assert_eq!(map.loss(1_500, 0), Ok(-10_950));
+    // -13.62 and -0.1065 hundredths, rounded towards plus infinity.
+    assert_eq!(map.loss(1_500, 80_120), Ok(-13));
+    assert_eq!(map.loss(1_500, 80_219), Ok(0));
 }
 
 #[test]

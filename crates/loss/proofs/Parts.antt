@@ -50,6 +50,10 @@ module _ {sensor : Sensor} (rules : SensorRules sensor) where
   parasitic_at_most =
       quotient_at_most _ _ 5000000 (omega arith) (omega (arith, mul-le-mul (mul-le-mul rules.parasitic.1 rules.share.1) rules.nominal.1))
 
+  pub steps_at_most : {C : ℕ} → C ≤ 5000000 → (sensor_steps sensor C).uncertainty ≤ 43000000
+  unfolding sensor_steps
+  steps_at_most h = uncertainty_at_most (sensitivity_at_most h) zero_at_most calibration_at_most parasitic_at_most
+
 -- ---- the steps, from the fixed parts
 
 pub steps_made : (p : PreparedSensor) (C a u : ℕ) → a ≡ grains_up (temperature_on_sensitivity p.sensor C) → u ≡ sensor_uncertainty a p.fixed.zero p.fixed.calibration p.fixed.parasitic →

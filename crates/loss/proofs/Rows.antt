@@ -18,9 +18,9 @@ sum_at_most [] h = omega arith
 sum_at_most (w ∷ ws) h = omega (arith, square_at_most h.0, sum_at_most ws h.1)
 
 -- with that of the input at the wheel: the squares fit 64 bits, and the root of their sum 32
-pub squares_fit : {v : ℕ} (ws : List ℕ) → v ≤ 860000000 → OutputsSmall ws → length ws ≤ 2 → sum_of_squares (v ∷ ws) < 2 ^ 64
+pub squares_fit : {v : ℕ} (ws : List ℕ) → v ≤ 860000000 → OutputsSmall ws → length ws ≤ 3 → sum_of_squares (v ∷ ws) < 2 ^ 64
 squares_fit ws h k few = omega (arith, square_at_most h, sum_at_most ws k, mul-le-mul_right (43000000 * 43000000) few)
 
-pub root_fits : {v : ℕ} (ws : List ℕ) → v ≤ 860000000 → OutputsSmall ws → length ws ≤ 2 → loss_uncertainty (v ∷ ws) ≤ 903000000
+pub root_fits : {v : ℕ} (ws : List ℕ) → v ≤ 860000000 → OutputsSmall ws → length ws ≤ 3 → loss_uncertainty (v ∷ ws) ≤ 903000000
 unfolding loss_uncertainty
 root_fits ws h k few = root_at_most _ 903000000 (omega (arith, square_at_most h, sum_at_most ws k, mul-le-mul_right (43000000 * 43000000) few))

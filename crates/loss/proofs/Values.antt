@@ -6,13 +6,14 @@ use native.Mathlib.Omega.{arith}
 use native.Mathlib.Decide.{dec_le}
 use lib.Dec.{ltb}
 use Rattle.arith.specs.Quotient.{quotient_up}
-use Rattle.arith.specs.Fraction.{◌over◌, whole, ◌⊕◌, ◌⊗◌, larger}
+use Rattle.arith.specs.Fraction.{Fraction, ◌over◌, whole, ◌⊕◌, ◌⊗◌, larger}
 use Rattle.arith.proofs.Fractions.{Is, is_over, is_whole, is_also, is_subtracted, is_sum, is_difference, is_product, is_natural_product, is_larger}
 use Rattle.loss.specs.declared.Line.{Line}
 use Rattle.loss.specs.Standard.{line_of, standard_loss, standard_entry}
 use Rattle.std.proofs.Common.{Option, Some, None}
 use Rattle.std.specs.Option.{SomeIff}
-use Rattle.loss.specs.Measured.{measured_loss, loss_is_under_zero, allowance, entry_of, LossSays}
+use Rattle.loss.specs.Measured.{measured_loss, loss_is_under_zero, allowance, from_grains, entry_of, LossSays}
+use Rattle.loss.specs.Rounding.{round_up, part_above}
 use Rattle.loss.proofs.Rounding.{is_same, is_part_above, larger_right, round_up_is, round_up_natural, under_zero_is}
 
 -- ---- the standard loss
@@ -61,27 +62,36 @@ twentieth_is ratio input output =
     is_also (input * ratio) (1000 * output) 20000 (omega arith) (omega arith)
     (is_product (is_over 5 100 (omega arith)) (loss_is ratio input output))
 
-one_newton_metre : Is (whole 100) 2000000 0 20000
-one_newton_metre = is_also 2000000 0 20000 (omega arith) (omega arith) (is_whole 100)
-
-pub allowance_is : (ratio input output : ℕ) → Is (allowance ratio input output) (max (input * ratio - 1000 * output) 2000000) 0 20000
-unfolding allowance
-allowance_is ratio input output = go (dec_le (1000 * output) (input * ratio))
+-- that or another number, whichever is more
+pub twentieth_or_is : (ratio input output : ℕ) {least : Fraction} {n : ℕ} → Is least n 0 20000 →
+    Is (larger ((5 over 100) ⊗ measured_loss ratio input output) least) (max (input * ratio - 1000 * output) n) 0 20000
+twentieth_or_is ratio input output {least} {n} l = go (dec_le (1000 * output) (input * ratio))
   where
-    go : Dec (1000 * output ≤ input * ratio) →
-        Is (larger ((5 over 100) ⊗ measured_loss ratio input output) (whole 100)) (max (input * ratio - 1000 * output) 2000000) 0 20000
-    go (yes h) = is_larger (is_subtracted h (twentieth_is ratio input output)) one_newton_metre
+    go : Dec (1000 * output ≤ input * ratio) → Is (larger ((5 over 100) ⊗ measured_loss ratio input output) least) (max (input * ratio - 1000 * output) n) 0 20000
+    go (yes h) = is_larger (is_subtracted h (twentieth_is ratio input output)) l
     go (no h) =
-        let s : max (input * ratio - 1000 * output) 2000000 ≡ 2000000 = omega arith in
-        rw s (larger_right (twentieth_is ratio input output) one_newton_metre (omega arith))
+        let s : max (input * ratio - 1000 * output) n ≡ n = omega arith in
+        rw s (larger_right (twentieth_is ratio input output) l (omega arith))
+
+-- 1 Nm at the input
+newton_metre_is : (ratio : ℕ) → Is (whole 100 ⊗ (ratio over 1000)) (2000 * ratio) 0 20000
+newton_metre_is ratio = is_also (2000 * ratio) 0 20000 (omega arith) (omega arith) (is_natural_product (is_whole 100) (is_over ratio 1000 (omega arith)))
+
+pub allowance_is : (ratio input output : ℕ) → Is (allowance ratio input output) (max (input * ratio - 1000 * output) (2000 * ratio)) 0 20000
+unfolding allowance
+allowance_is ratio input output = twentieth_or_is ratio input output (newton_metre_is ratio)
 
 -- ---- the entry, for any allowance A that is not negative
+
+pub added_is : (ratio input output uncertainty A : ℕ) {allowed : Fraction} → Is allowed A 0 20000 →
+    round_up (measured_loss ratio input output ⊕ part_above (from_grains uncertainty) allowed) ≡ quotient_up (20 * (input * ratio) + (200 * uncertainty - A) - 20000 * output) 20000
+added_is ratio input output uncertainty A a = round_up_is (is_also _ (20000 * output) 20000 (omega arith) (omega arith)
+    (is_sum (loss_is ratio input output) (is_part_above (is_also (200 * uncertainty) 0 20000 (omega arith) (omega arith) (is_over uncertainty 100 (omega arith))) a)))
 
 pub entry_is : (ratio input output uncertainty A : ℕ) → Is (allowance ratio input output) A 0 20000 →
     entry_of ratio input output uncertainty ≡ quotient_up (20 * (input * ratio) + (200 * uncertainty - A) - 20000 * output) 20000
 unfolding entry_of
-entry_is ratio input output uncertainty A a = round_up_is (is_also _ (20000 * output) 20000 (omega arith) (omega arith)
-    (is_sum (loss_is ratio input output) (is_part_above (is_also (200 * uncertainty) 0 20000 (omega arith) (omega arith) (is_over uncertainty 100 (omega arith))) a)))
+entry_is ratio input output uncertainty A a = added_is ratio input output uncertainty A a
 
 -- ---- the measured loss as the code finds it
 

@@ -1,4 +1,4 @@
--- Document 01, "Measured loss", and document 02, C-11: any number of output sensors. Ratios and factors are in thousandths, torques and losses in hundredths of Nm, uncertainties in grains. Assumes nothing.
+-- Document 01, "Measured loss", and document 02, C-11: any number of output sensors, and C-13: the allowance. Ratios and factors are in thousandths, torques and losses in hundredths of Nm, uncertainties in grains. Assumes nothing.
 use Rattle.std.specs.Prelude.{ℕ, ◌+◌, ◌*◌, ◌≤◌, Bool, true, false, List, [], ◌∷◌, map, ◌≡◌, length, Option, Some, None}
 use Rattle.std.proofs.Common.{le_antisymm, arith}
 use Rattle.arith.specs.Quotient.{quotient_up, quotient_up_law, quotient_up_least}
@@ -136,9 +136,9 @@ measured_loss ratio input output = whole input ⊗ (ratio over 1000) ⊖ whole o
 unfoldable pub loss_is_under_zero : (ratio input output : ℕ) → Bool
 loss_is_under_zero ratio input output = under_zero (measured_loss ratio input output)
 
--- the allowance: 5 % of the measured loss or 1 Nm at the wheel, whichever is more
+-- the allowance: 5 % of the measured loss or 1 Nm at the input, at the wheel "1 Nm times the ratio", whichever is more
 unfoldable pub allowance : (ratio input output : ℕ) → Fraction
-allowance ratio input output = larger ((5 over 100) ⊗ measured_loss ratio input output) (whole 100)
+allowance ratio input output = larger ((5 over 100) ⊗ measured_loss ratio input output) (whole 100 ⊗ (ratio over 1000))
 
 -- a hundred grains are a hundredth of Nm
 abbrev pub from_grains : ℕ → Fraction

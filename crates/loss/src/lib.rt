@@ -242,14 +242,15 @@ impl Measurement {
         self.gained().checked_sub(20_000 * u64::from(self.output))
     }
 
-    // The allowance: a twentieth of the measured loss or 1 Nm at the wheel, whichever is more.
+    // The allowance: a twentieth of the measured loss or 1 Nm at the input times the ratio, whichever is more.
     pub fn allowance(self) -> u64
         ensures allowance { Same (result over 20000) (allowance self.ratio self.input self.output) }
         ensures bound { result < 2 ^ 48 }
     {
         let twentieth_spent = 1000 * u64::from(self.output);
         let twentieth = at_ratio(self.input, self.ratio).saturating_sub(twentieth_spent);
-        twentieth.max(2_000_000)
+        let newton_metre = 2_000 * u64::from(self.ratio);
+        twentieth.max(newton_metre)
     }
 
     // The entry, from the loss uncertainty in grains: what that has above the allowance is added to the measured loss, and

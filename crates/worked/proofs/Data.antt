@@ -62,18 +62,18 @@ pub standard_accurate : Accurate standard_data (grid_of (100 ∷ 200 ∷ []) 2 (
 unfolding every
 standard_accurate = accurate standard_data 100 200 0 1000 13000 15041 13000 15041 hold.0 (are_bytes standard_data refl)
 
--- ---- kind 2: 29.00 Nm at 1,000 Nm, and 300.00 Nm at 3,000 Nm; kind 3: 28.00 Nm and 66.00 Nm at 100 rpm, 40.35 Nm and 300.00 Nm at 200 rpm
-pub measured_built : MapIs measured_data 100 200 1000 3000 2900 30000 2900 30000 × MapIs half_shafts_data 100 200 1000 3000 2800 6600 4035 30000
+-- ---- kind 2: 27.00 Nm at 1,000 Nm, and 300.00 Nm at 3,000 Nm; kind 3: 26.00 Nm and 66.00 Nm at 100 rpm, 39.00 Nm and 300.00 Nm at 200 rpm
+pub measured_built : MapIs measured_data 100 200 1000 3000 2700 30000 2700 30000 × MapIs half_shafts_data 100 200 1000 3000 2600 6600 3900 30000
 unfolding build map_of entries speed_entries tabulate joined rows_check speed_check check check_of_kind entry entry_of_kind component axle_fields axes_fields kind_fields measured_fields output_tags rows_tag sensor_fields head field number axis sensor sensor_number_check sensor_check pairs within rises axis_number axis_numbers first_step first_refusal torque_at outputs_at row_at outputs_check row_check near_axis measured_entry entry_of row_uncertainty readings reading_uncertainty scaled_uncertainty loss_uncertainty sensor_steps sensor_uncertainty grains_up temperature_on_sensitivity temperature_on_zero calibration parasitic_loads measured_loss loss_is_under_zero allowance round_up part_above under_zero larger ◌less◌over◌ ◌over◌ whole ◌⊕◌ ◌⊖◌ ◌⊗◌ quotient_up root_up
 measured_built = (refl, refl)
 
-pub measured_accurate : Accurate measured_data (grid_of (100 ∷ 200 ∷ []) 2 (1000 ∷ 3000 ∷ []) 2) (2900 ∷ 30000 ∷ 2900 ∷ 30000 ∷ [])
+pub measured_accurate : Accurate measured_data (grid_of (100 ∷ 200 ∷ []) 2 (1000 ∷ 3000 ∷ []) 2) (2700 ∷ 30000 ∷ 2700 ∷ 30000 ∷ [])
 unfolding every
-measured_accurate = accurate measured_data 100 200 1000 3000 2900 30000 2900 30000 measured_built.0 (are_bytes measured_data refl)
+measured_accurate = accurate measured_data 100 200 1000 3000 2700 30000 2700 30000 measured_built.0 (are_bytes measured_data refl)
 
-pub half_shafts_accurate : Accurate half_shafts_data (grid_of (100 ∷ 200 ∷ []) 2 (1000 ∷ 3000 ∷ []) 2) (2800 ∷ 6600 ∷ 4035 ∷ 30000 ∷ [])
+pub half_shafts_accurate : Accurate half_shafts_data (grid_of (100 ∷ 200 ∷ []) 2 (1000 ∷ 3000 ∷ []) 2) (2600 ∷ 6600 ∷ 3900 ∷ 30000 ∷ [])
 unfolding every
-half_shafts_accurate = accurate half_shafts_data 100 200 1000 3000 2800 6600 4035 30000 measured_built.1 (are_bytes half_shafts_data refl)
+half_shafts_accurate = accurate half_shafts_data 100 200 1000 3000 2600 6600 3900 30000 measured_built.1 (are_bytes half_shafts_data refl)
 
 -- and one whose second row, at place 80, has a loss under zero
 pub refused_at_row : build refused_data 4 ≡ refuse 9 80

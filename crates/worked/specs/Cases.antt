@@ -1,4 +1,4 @@
--- Document 01, "Reckoned by hand": every line marked for the proved set, as what is computed beside what the paper has.
+-- Document 01, "Reckoned by hand", with document 02, C-13: every line marked for the proved set, as what is computed beside what the papers have.
 use Rattle.std.specs.Prelude.{ℕ, ◌≡◌, List, [], ◌∷◌, ℤ, pos}
 use Rattle.refusal.specs.Outcome.{Outcome, accepted, refuse}
 use Rattle.grid.specs.Parts.{grid_of}
@@ -16,7 +16,7 @@ use Rattle.lookup.specs.declared.GridPoint.{GridPoint}
 use Rattle.lookup.specs.Nearest.{nearest_answer}
 use Rattle.worked.specs.Data.{standard_data}
 
--- what is computed, and what document 01 has
+-- what is computed, and what the papers have
 pub data Case : Type 0 where
   number_case : (computed expected : ℕ) → Case
   text_case : (computed expected : List ℕ) → Case
@@ -73,13 +73,13 @@ cases =
     -- parts 1, 0, 0, 0 and 0, 0, 1, 0
     ∷ number_case (sensor_uncertainty 1 0 0 0) 2
     ∷ number_case (sensor_uncertainty 0 0 1 0) 2
-    -- U of both sensors and the loss uncertainty; then input 1,100.00, 1,020.00, 1,000.00 and 999.99
+    -- U of both sensors and the loss uncertainty; then input 1,100.00, 1,020.00, 1,000.00 (7.00 Nm by C-13) and 999.99
     ∷ number_case (sensor_steps (sensor 10000) 110000).uncertainty 20000
     ∷ number_case (sensor_steps (sensor 40000) 300000).uncertainty 80000
     ∷ number_case (row_uncertainty (measured_row 110000)) 100000
     ∷ number_case (measured_entry (measured_row 110000)) 30000
     ∷ number_case (measured_entry (measured_row 102000)) 6700
-    ∷ number_case (measured_entry (measured_row 100000)) 900
+    ∷ number_case (measured_entry (measured_row 100000)) 700
     ∷ row_case (row_check 3000 (measured_row 100000)) (accepted tt)
     ∷ row_case (row_check 3000 (measured_row 99999)) (refuse 9 0)
     -- speeds 100 and 200: 150.0 rpm and 150.1 rpm

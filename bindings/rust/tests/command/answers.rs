@@ -35,17 +35,17 @@ fn loss() {
         assert_answered(loss(STANDARD, speed, "500.00"), "140.21\n");
     }
     assert_answered(loss(MEASURED, "150.5", "3000"), "300.00\n");
-    assert_answered(loss(MEASURED, "100", "0"), "-106.50\n");
-    assert_answered(loss(MEASURED, "100", "785"), "-0.13\n");
-    assert_answered(loss(MEASURED, "100", "785.95"), "0.00\n");
+    assert_answered(loss(MEASURED, "100", "0"), "-109.50\n");
+    assert_answered(loss(MEASURED, "100", "801.2"), "-0.13\n");
+    assert_answered(loss(MEASURED, "100", "802.19"), "0.00\n");
     assert_failed(loss(REFUSED, "100", "0"), 1, REFUSAL);
 }
 
-/// Left and right are added: 28.00 and 66.00 Nm at 100 rpm, 40.35 and 300.00 Nm at 200 rpm.
+/// Left and right are added: 26.00 and 66.00 Nm at 100 rpm, 39.00 and 300.00 Nm at 200 rpm.
 #[test]
 fn data_of_kind_3() {
     let listing =
-        "speed,torque,loss\n100,1000,28.00\n100,3000,66.00\n200,1000,40.35\n200,3000,300.00\n";
+        "speed,torque,loss\n100,1000,26.00\n100,3000,66.00\n200,1000,39.00\n200,3000,300.00\n";
     let axes = "accepted: 2 speeds from 100 to 200 rpm, 2 torques from 1000 to 3000 Nm\n";
     let data = std::fs::read(examples_folder().join(HALF_SHAFTS)).expect("read");
     for (word, answer) in [("list", listing), ("check", axes)] {
@@ -54,11 +54,11 @@ fn data_of_kind_3() {
     }
     let loss = |speed, torque| run(["loss", HALF_SHAFTS, speed, torque]);
     assert_answered(loss("100", "3000"), "66.00\n");
-    assert_answered(loss("100", "2000"), "47.00\n");
-    // 47.00 and 170.175 Nm at the two speeds: 108.5875 Nm between them, rounded up.
-    assert_answered(loss("150", "2000"), "108.59\n");
-    // 40.35 Nm less a quarter of the rise of 259.65 Nm: -24.5625 Nm, rounded up.
-    assert_answered(loss("200", "500"), "-24.56\n");
+    assert_answered(loss("100", "2000"), "46.00\n");
+    // 46.01 and 169.56525 Nm at the two speeds: 107.787625 Nm between them, rounded up.
+    assert_answered(loss("150", "2000.5"), "107.79\n");
+    // 39.00 Nm less 499.90 Nm at 0.1305 each: -26.23695 Nm, rounded up.
+    assert_answered(loss("200", "500.1"), "-26.23\n");
     assert_failed_with(loss("99.9", "2000"), 1, "axle: refused 20 at 0: ");
     assert_failed_with(loss("100", "3000.01"), 1, "axle: refused 21 at 0: ");
     let nearest = |speed, torque| run(["nearest", HALF_SHAFTS, speed, torque]);

@@ -41,7 +41,7 @@ Status 2: something could not be read or written, or wrong usage.
 examples, in the folder examples:
   axle list standard.axle > map.csv
   axle loss standard.axle 100.0 500.00   prints 140.21
-  axle loss measured.axle 100 500        prints -38.75
+  axle loss measured.axle 100 500        prints -41.25
   axle nearest standard.axle 150.1 500   prints 200,0
   axle check - < standard.axle
   axle write measured.numbers > new.axle

@@ -5,4 +5,4 @@ use Rattle.loss.proofs.Measurement.allowance.Goals as goal
 
 pub returns-clause-allowance : goal.returns-clause-allowance
 returns-clause-allowance c =
-    rw (c.max.ensures, c.saturating_sub-twentieth.ensures, c.at_ratio.ensures.product, c.from-twentieth_spent.ensures) (is_same (allowance_is c.args.self.ratio c.args.self.input c.args.self.output))
+    rw (c.max.ensures, c.saturating_sub-twentieth.ensures, c.at_ratio.ensures.product, c.from-twentieth_spent.ensures, c.from-newton_metre.ensures) (is_same (allowance_is c.args.self.ratio c.args.self.input c.args.self.output))
