@@ -65,6 +65,27 @@ fn measured_losses() {
     assert_eq!(loss(99_999), Err(Refusal { number, place }));
 }
 
+/// The measured example with this ratio and no loss in any row.
+fn without_loss(ratio: u16) -> Vec<u8> {
+    let mut data = MEASURED.to_vec();
+    data[11..13].copy_from_slice(&ratio.to_be_bytes());
+    for (row, output) in [100_000, 300_000, 100_000, 300_000].into_iter().enumerate() {
+        let input: u32 = 1_000 * output / u32::from(ratio);
+        data[72 + 8 * row..][..4].copy_from_slice(&input.to_be_bytes());
+    }
+    data
+}
+
+/// 1 Nm at the input is 1.00 Nm at the wheel under a ratio of 1.000, and 20.00 Nm under 20.000. U is
+/// 20,000 and 80,000 grains: the root of 20,000² + 80,000² is 82,462.1, that of 400,000² + 80,000²
+/// 407,921.6. So 824.63 - 100.00 and 4,079.22 - 2,000.00 hundredths are above it.
+#[test]
+fn the_newton_metre_is_at_the_input() {
+    let entries = |ratio| Map::build(&without_loss(ratio)).map(|map| map.entries().to_vec());
+    assert_eq!(entries(1_000), Ok(vec![725; 4]));
+    assert_eq!(entries(20_000), Ok(vec![2_080; 4]));
+}
+
 /// At 1,000 Nm the example has 340.00 Nm in: a loss of 20.00 Nm with 10.00 Nm of uncertainty, of
 /// which 3.00 Nm are allowed. From there to 3,000 Nm it rises by 273.00 Nm, and so falls below zero
 /// towards 0 Nm.
