@@ -2,7 +2,7 @@
 use Prim.Native.Nat.{ℕ, ◌+◌, ◌*◌, ◌≤◌, ◌<◌}
 use mathlib.Core.Path.{◌≡◌, sym, ap, ◌∙◌}
 use mathlib.Core.Bool.{true}
-use mathlib.Core.List.{List, [], ◌∷◌}
+use mathlib.Core.List.{List}
 use mathlib.Core.Logic.{◌⊎◌, inl, inr}
 use native.Mathlib.Omega.{arith}
 use native.Mathlib.Decide.{dec_le}
@@ -13,17 +13,14 @@ use Rattle.refusal.proofs.First.{first_all}
 use Rattle.grid.specs.Map.{counted_numbers, valid_map}
 use Rattle.grid.specs.declared.Grid.{Grid}
 use Rattle.component.specs.Component.{Component, Kind, standard, measured}
-use Rattle.sensor.specs.declared.Sensor.{Sensor}
-use Rattle.layout.specs.Rules.{AreBytes, AllSensorRules, Rules, KindRules}
+use Rattle.layout.specs.Rules.{AreBytes, Rules, KindRules}
 use Rattle.loss.specs.Exact.{IsNumber, EntryAccurate}
 use Rattle.loss.proofs.Accuracy.{standard_is_number, standard_entry_accurate, measured_is_number, measured_entry_accurate, wider, fractions_near}
-use Rattle.loss.specs.Measured.{AllInRange}
-use Rattle.rows.specs.Rows.{outputs_at, row_at}
-use Rattle.rows.proofs.RowSensors.{outputs_count}
-use Rattle.map.specs.Build.{point_start, entry, entry_of_kind, check, check_of_kind, speed_check, rows_check}
+use Rattle.map.specs.Build.{entry, entry_of_kind, check, check_of_kind, speed_check, rows_check}
 use Rattle.std.specs.Prelude.{Ok}
 use Rattle.map.specs.Answers.{Builds}
 use Rattle.rows.proofs.Acceptance.{row_right}
+use Rattle.map.proofs.RowInRange.{row_in_range}
 use Rattle.map.proofs.Valid.{from_data, data_rules, entry_there, is_map}
 use Rattle.cell.specs.Cell.{Within, Cell, Has, entry_at}
 use Rattle.cell.specs.declared.Point.{Point}
@@ -46,12 +43,6 @@ unfolding excess_of
 excess_most standard = omega arith
 excess_most (measured input outputs rows) = omega arith
 
--- each output sensor of a row keeps its rules
-outputs_in_range : (sensors : List Sensor) (bytes : List ℕ) (at : ℕ) → AllSensorRules sensors → AllInRange (outputs_at sensors bytes at)
-unfolding outputs_at
-outputs_in_range [] bytes at r = tt
-outputs_in_range (sensor ∷ sensors) bytes at r = (r.0, outputs_in_range sensors bytes (at + 4) r.1)
-
 kind_number_lem : (c : Component) (i j : ℕ) (kind : Kind) → IsNumber (exact_of_kind c i j kind)
 unfolding exact_of_kind
 kind_number_lem c i j standard = standard_is_number c.line c.ratio (get_or c.torques j 0)
@@ -59,17 +50,10 @@ kind_number_lem c i j (measured input outputs rows) = measured_is_number _
 
 kind_accurate : (c : Component) (i j : ℕ) (kind : Kind) → Rules c → KindRules (length c.speeds) (length c.torques) kind → check_of_kind c i j kind ≡ accepted tt
     → EntryAccurate (excess_of kind) (exact_of_kind c i j kind) (entry_of_kind c i j kind)
-unfolding exact_of_kind check_of_kind entry_of_kind excess_of row_at
+unfolding exact_of_kind check_of_kind entry_of_kind excess_of
 kind_accurate c i j standard r k e = standard_entry_accurate c.line c.ratio (get_or c.torques j 0)
 kind_accurate c i j (measured input outputs rows) r k e =
-    measured_entry_accurate _
-    (record {
-      ratio = r.ratio.1;
-      sensor = k.sensors.0;
-      outputs = outputs_in_range outputs rows.bytes _ k.sensors.1;
-      few = omega (arith, outputs_count outputs rows.bytes (point_start c i j outputs + 4), k.most_outputs);
-      loss = (row_right _ _ (placed_accepted _ _ tt e)).loss;
-    })
+    measured_entry_accurate _ (row_in_range c i j input outputs rows r k (row_right _ _ (placed_accepted _ _ tt e)).loss)
 
 pub exact_number : (c : Component) (i j : ℕ) → IsNumber (exact_at c i j)
 unfolding exact_at

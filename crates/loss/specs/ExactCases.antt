@@ -49,8 +49,8 @@ standard_case line ratio torque low high = record { exact = exact_standard line 
 
 -- Rows with every influence of every sensor at work and no part a whole number of grains. With one output the root is above an allowance of 1 Nm times
 -- the ratio (the first three) and of 5 % (the next two), and below it in the sixth; with two outputs above the first (two), above 5 % (two) and below (one).
--- Then two standard losses of each line, none a whole number of hundredths. Then those of document 01, "Reckoned by hand", one as document 02, C-13,
--- has it, whose exact entries are whole, and one with two outputs whose root is.
+-- Then two standard losses of each line, none a whole number of hundredths. Then those of document 01, "Reckoned by hand", with the allowance of
+-- document 02, C-13, whose exact entries are whole, and one with two outputs whose root is.
 abbrev pub exact_cases : List ExactCase
 exact_cases =
     measured_case 1637 (sensor 2909 603 328 2331 6236 704 596 286 84) 174285 (measured_output (sensor 3201 512 415 1658 4441 2609 264 368 47) 284363 ∷ []) 13626605310 13626605311

@@ -4,3 +4,5 @@ pub mod Maps
 pub mod ReadData
 pub mod Valid
 pub mod Acceptance
+pub mod RowInRange
+pub mod EarlierAllowance

@@ -43,7 +43,7 @@ pub record Passes (row : Row) : Type 0 where
   pub outputs : OutputsWithin row.outputs
 
 -- today's entry is at most the earlier one, and one is refused by 10 exactly when the other is
-pub record Alike (row : Row) : Type 0 where
+pub record EntriesAlike (row : Row) : Type 0 where
   pub not_raised : measured_entry row ≤ earlier_entry row
   pub refused_before : 10000000 < measured_entry row → 10000000 < earlier_entry row
   pub refused_today : 10000000 < earlier_entry row → 10000000 < measured_entry row
@@ -113,7 +113,7 @@ module _ (row : Row) (p : Passes row) where
           inl (rw (today_is, earlier_is, e) refl)
       go (no h) = inr (rw earlier_is (at_most _ _ (omega (arith, h, p.in_range.ratio, uncertainty_at_most))))
 
-  pub entries_alike : Alike row
+  pub entries_alike : EntriesAlike row
   entries_alike = record {
     not_raised = not_raised;
     refused_before = λ h. omega (arith, h, not_raised);
