@@ -151,7 +151,7 @@ fn row_of_loss(ratio: u64, loss: u64, input: u64) -> Option<(u64, u64)> {
 fn near_row_from(ratio: u64, standing: Standing, lowest: u64) -> (u64, u64) {
     let loss = near_loss(ratio, standing).expect("a near standing");
     let least = (1_000 * lowest + loss).div_ceil(ratio);
-    // Thousandths: one in at most 1,000 input torques fits.
+    // The loss has thousandths, so that of 1,000 input torques at least one fits.
     let mut rows = (least..).filter_map(|input| row_of_loss(ratio, loss, input));
     rows.next().expect("a row")
 }

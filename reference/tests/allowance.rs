@@ -77,7 +77,7 @@ fn ratio_and_row(source: &mut Source) -> (u16, Measured, Row) {
     (ratio as u16, measured, row)
 }
 
-/// The row with an input torque at which the entry is not above the largest and at the next it is, and with that next one; if the sensor can have it.
+/// The row with the last input torque whose entry is not above the largest, and the row with the next one; if the sensor can have it.
 fn about_the_largest_entry(ratio: u16, measured: &Measured, row: &Row) -> Vec<Row> {
     let with = |input| Row {
         input,

@@ -1,4 +1,4 @@
-//! cases/cases.txt against cases/answers.txt, which a third program reckoned in exact fractions; those of kind 3, of the writer and of request C-13, the last ones, were reckoned by hand, but for the very last one.
+//! cases/cases.txt against cases/answers.txt, which a third program reckoned in exact fractions, with the allowance of request C-13; those of kind 3, of the writer and of that request, the last ones, were reckoned by hand, but for the very last one.
 
 use reference::component;
 use reference::listing::report;
