@@ -19,11 +19,11 @@ use Rattle.loss.proofs.Values.{twentieth_or_is, allowance_is, added_is, entry_is
 use Rattle.rows.specs.Acceptance.{OutputsWithin}
 
 -- the allowance before C-13: 5 % of the measured loss or 1 Nm at the wheel, whichever is more
-pub earlier_allowance : (ratio input output : ℕ) → Fraction
+unfoldable pub earlier_allowance : (ratio input output : ℕ) → Fraction
 earlier_allowance ratio input output = larger ((5 over 100) ⊗ measured_loss ratio input output) (whole 100)
 
 -- a row's entry by an allowance
-pub entry_by : ((ratio input output : ℕ) → Fraction) → Row → ℕ
+unfoldable pub entry_by : ((ratio input output : ℕ) → Fraction) → Row → ℕ
 entry_by allowed row =
     round_up (measured_loss row.ratio row.input (output row) ⊕ part_above (from_grains (row_uncertainty row)) (allowed row.ratio row.input (output row)))
 
@@ -32,7 +32,7 @@ pub entry_by_today : (row : Row) → entry_by allowance row ≡ measured_entry r
 unfolding entry_by measured_entry entry_of
 entry_by_today row = refl
 
-pub earlier_entry : Row → ℕ
+unfoldable pub earlier_entry : Row → ℕ
 earlier_entry row = entry_by earlier_allowance row
 
 -- a row that passes 7 and 9, its other numbers being in their ranges. Whether it passes 8 makes no difference.
