@@ -1,5 +1,5 @@
-//! Document 01, "Component data", with refusals 1 to 6 and 12 of "Refusals"; and
-//! kind 3 of request C-11.
+//! Document 01, "Component data", with refusals 1 to 6 and 12 of "Refusals"; kind 3
+//! of request C-11; and refusals 31 and 32 of request C-14.
 
 use crate::refusal::Refusal;
 use std::ops::RangeInclusive;
@@ -74,8 +74,8 @@ pub struct Sensor {
 }
 
 impl Sensor {
-    /// The sensor of nine numbers in their order, or the place among them, from 0,
-    /// of the first that is outside its range.
+    /// The sensor of nine numbers in their order, or the index, from 0, of the first
+    /// that is outside its range.
     pub fn of(numbers: [u16; 9]) -> Result<Sensor, usize> {
         const PPM: RangeInclusive<u16> = 0..=10_000;
         let ranges = [
@@ -89,9 +89,9 @@ impl Sensor {
             0..=500,
             10..=100,
         ];
-        let outside = |place: &usize| !ranges[*place].contains(&numbers[*place]);
-        if let Some(place) = (0..numbers.len()).find(outside) {
-            return Err(place);
+        let outside = |index: &usize| !ranges[*index].contains(&numbers[*index]);
+        if let Some(index) = (0..numbers.len()).find(outside) {
+            return Err(index);
         }
         let [nominal, sensitivity, zero, calibration, advancement, parasitic, share, difference, span] =
             numbers;
@@ -259,12 +259,22 @@ impl Field<'_> {
         (u16::from_be_bytes(bytes), self.start + position)
     }
 
+    /// A number of an axis.
     fn number_within(self, position: usize, range: &RangeInclusive<u16>) -> Result<u16, Refusal> {
         let (number, offset) = self.number(position);
         if !range.contains(&number) {
             return Err(Refusal::at(4, offset));
         }
         Ok(number)
+    }
+
+    /// The only number of its body.
+    fn ratio(self) -> Result<u16, Refusal> {
+        let (ratio, offset) = self.number(0);
+        if !RATIO_RANGE.contains(&ratio) {
+            return Err(Refusal::at_index(31, offset, 0));
+        }
+        Ok(ratio)
     }
 
     /// The only byte of a one-byte body.
@@ -290,8 +300,8 @@ impl Field<'_> {
     }
 
     fn sensor(self) -> Result<Sensor, Refusal> {
-        let numbers = std::array::from_fn(|place| self.number(2 * place).0);
-        Sensor::of(numbers).map_err(|place| Refusal::at(4, self.start + 2 * place))
+        let numbers = std::array::from_fn(|index| self.number(2 * index).0);
+        Sensor::of(numbers).map_err(|index| Refusal::at_index(32, self.start + 2 * index, index))
     }
 
     /// Rows of so many bytes.
@@ -318,7 +328,7 @@ pub fn read(data: &[u8]) -> Result<Component, Refusal> {
     let (field, cursor) = cursor.field(2, |length| length == 1)?;
     let line = field.byte_within(LINE_RANGE)?;
     let (field, cursor) = cursor.field(3, |length| length == 2)?;
-    let ratio = field.number_within(0, &RATIO_RANGE)?;
+    let ratio = field.ratio()?;
     let (field, cursor) = cursor.field(4, |length| axis_length(&SPEED_RULE, length))?;
     let speeds = field.axis(&SPEED_RULE.range)?;
     let (field, cursor) = cursor.field(5, |length| axis_length(&TORQUE_RULE, length))?;

@@ -164,6 +164,13 @@ impl Data {
         })
     }
 
+    /// Another number at this index of the first field with a tag; no change where there is no such field.
+    pub fn set_number(&mut self, tag: u8, index: usize, number: u32) {
+        if let Some(field) = self.field_mut(tag) {
+            field.set_number(index, number);
+        }
+    }
+
     /// The number of tag 1 in valid data.
     pub fn kind(&self) -> u8 {
         self.numbers(1)[0] as u8

@@ -112,7 +112,7 @@ fn kind_faults(data: &Data) -> Vec<Vec<u8>> {
     others.retain(|kind| *kind != u32::from(data.kind()));
     others
         .into_iter()
-        .map(|kind| changed(data, |d| set(d, 1, 0, kind)))
+        .map(|kind| changed(data, |d| d.set_number(1, 0, kind)))
         .collect()
 }
 
@@ -123,7 +123,7 @@ fn axis_faults(data: &Data) -> Vec<Vec<u8>> {
         let numbers = data.numbers(tag);
         for index in 1..numbers.len() {
             for wrong in [numbers[index - 1], numbers[index - 1].saturating_sub(1)] {
-                faulty.push(changed(data, |d| set(d, tag, index, wrong)));
+                faulty.push(changed(data, |d| d.set_number(tag, index, wrong)));
             }
         }
     }
@@ -134,7 +134,7 @@ fn axis_faults(data: &Data) -> Vec<Vec<u8>> {
 /// The first torque as little above the first step as it can be.
 pub fn first_step_fault(data: &Data) -> Vec<u8> {
     let second = data.numbers(5)[1];
-    changed(data, |d| set(d, 5, 0, second / 2 + 1))
+    changed(data, |d| d.set_number(5, 0, second / 2 + 1))
 }
 
 /// Bytes after the last field: few, many, or another field.
@@ -154,15 +154,9 @@ fn extra_bytes(data: &Data) -> Vec<Vec<u8>> {
     faulty
 }
 
-fn set(data: &mut Data, tag: u8, index: usize, number: u32) {
-    if let Some(field) = data.field_mut(tag) {
-        field.set_number(index, number);
-    }
-}
-
 /// The highest limit for the input sensor of measured data: a loss can then be above the largest entry, 10.
 pub fn raise_input_limit(data: &mut Data) {
-    set(data, 6, 0, 50_000);
+    data.set_number(6, 0, 50_000);
 }
 
 /// Measured data with one row at each of its limits and just beyond it.
@@ -244,7 +238,7 @@ fn side_limits(input: u32, output: u32, aim: u32) -> [Vec<u32>; 6] {
 
 fn set_row(data: &mut Data, tag: u8, row: usize, torques: &[u32]) {
     for (place, torque) in torques.iter().enumerate() {
-        set(data, tag, row * torques.len() + place, *torque);
+        data.set_number(tag, row * torques.len() + place, *torque);
     }
 }
 
@@ -285,7 +279,7 @@ fn chance_fault(source: &mut Source, data: &mut Data) {
 }
 
 /// A number of a field changed, most often near to an end of its range or to itself.
-fn chance_number(source: &mut Source, field: &mut Field) {
+pub fn chance_number(source: &mut Source, field: &mut Field) {
     if field.number_count() == 0 {
         return;
     }

@@ -1,7 +1,8 @@
 //! Second implementation of document 01, "Axle loss maps", with requests C-11, two
-//! half-shaft sensors, C-12, writing component data, and C-13, the newton metre of
-//! the allowance at the input, of document 02; written from these papers alone. It
-//! renders the whole of them, for checks by running.
+//! half-shaft sensors, C-12, writing component data, C-13, the newton metre of the
+//! allowance at the input, and C-14, which number was refused, of document 02;
+//! written from these papers alone. It renders the whole of them, for checks by
+//! running.
 //! Beside it: traces of single numbers; a generator of component data and
 //! questions, and what it takes to compare the answers with those of the proved
 //! libraries; cases whose exact entries are printed; and the examples.
@@ -34,6 +35,8 @@ pub mod lent_maps;
 pub mod numbers_text;
 pub mod questions;
 pub mod random;
+pub mod refused_number_cases;
+pub mod refused_numbers;
 pub mod reply;
 pub mod stored;
 pub mod stored_files;

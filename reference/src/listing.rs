@@ -41,9 +41,18 @@ pub fn line_number(entry_index: usize) -> usize {
 
 /// What the map program writes for this standard input.
 pub fn report(data: &[u8]) -> Vec<u8> {
+    report_of(listing_of_data(data))
+}
+
+/// The listing of the map of this standard input.
+pub fn listing_of_data(data: &[u8]) -> Result<Vec<u8>, Refusal> {
     let counted = &data[..data.len().min(LONGEST_INPUT)];
     // The program lends itself room enough: 11 is never among its refusals.
-    let written = map::build(counted, MOST_ENTRIES)
-        .and_then(|built| listing(&LentMap::of(&built, built.entries.clone()), usize::MAX));
-    written.unwrap_or_else(|refusal| format!("{refusal}\n").into_bytes())
+    let built = map::build(counted, MOST_ENTRIES)?;
+    listing(&LentMap::of(&built, built.entries.clone()), usize::MAX)
+}
+
+/// The listing, or the line of a refusal.
+pub fn report_of(listing: Result<Vec<u8>, Refusal>) -> Vec<u8> {
+    listing.unwrap_or_else(|refusal| format!("{refusal}\n").into_bytes())
 }

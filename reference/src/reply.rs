@@ -4,11 +4,12 @@ use crate::allowances::Allowances;
 use crate::cases::Case;
 use crate::component::{self, Component, Kind};
 use crate::exact::{ExactMap, Verdict};
-use crate::listing::{listing, report};
+use crate::listing::{listing, listing_of_data, report_of};
 use crate::lookup::{self, LentMap};
 use crate::map::{self, Map};
 use crate::questions::Question;
 use crate::refusal::Refusal;
+use crate::refused_numbers::RefusedNumbers;
 use crate::writer::{self, HandedNumbers};
 use std::collections::{BTreeMap, BTreeSet};
 use std::fmt::Write;
@@ -84,6 +85,7 @@ pub struct Seen {
     pub answers: Excess,
     pub answers_below: Excess,
     pub writes: Writes,
+    pub refused_numbers: RefusedNumbers,
 }
 
 impl Seen {
@@ -98,8 +100,12 @@ impl Seen {
         if places.len() < 1_000 {
             places.insert(refusal.place);
         }
-        format!("{refusal}\n")
+        refused_line(refusal)
     }
+}
+
+fn refused_line(refusal: Refusal) -> String {
+    refusal.line_with_index() + "\n"
 }
 
 /// The answer to a case, without the line of its number.
@@ -108,9 +114,18 @@ pub fn reply(case: &Case, seen: &mut Seen) -> Vec<u8> {
     match case {
         Case::Read(data) => match component::read(data) {
             Ok(component) => component_line(&component).into_bytes(),
-            Err(refusal) => seen.refused(refusal).into_bytes(),
+            Err(refusal) => {
+                seen.refused_numbers.add(case.letter(), refusal);
+                seen.refused(refusal).into_bytes()
+            }
         },
-        Case::Program(data) => report(data),
+        Case::Program(data) => {
+            let listing = listing_of_data(data);
+            if let Err(refusal) = listing {
+                seen.refused_numbers.add(case.letter(), refusal);
+            }
+            report_of(listing)
+        }
         Case::Build {
             data,
             entries,
@@ -133,7 +148,10 @@ fn write_reply(numbers: &HandedNumbers, room: usize, seen: &mut Seen) -> String 
     seen.writes.add(numbers, room, &answer);
     let lines = match answer {
         Ok(length) => written_lines(&buffer[..length]),
-        Err(refusal) => format!("{refusal}\n"),
+        Err(refusal) => {
+            seen.refused_numbers.add('w', refusal);
+            refused_line(refusal)
+        }
     };
     lines + "file kept\n"
 }
@@ -158,6 +176,7 @@ fn build_reply(
     let built = match map::build(data, entries) {
         Ok(built) => built,
         Err(refusal) => {
+            seen.refused_numbers.add('b', refusal);
             return (seen.refused(refusal) + "entries kept\n").into_bytes();
         }
     };

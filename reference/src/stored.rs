@@ -7,22 +7,26 @@ use crate::questions::Question;
 use crate::random::Source;
 use crate::reply::{reply, Excess, Seen, Writes};
 use crate::writer::HandedNumbers;
-use crate::{allowance_cases, valid, write_cases};
+use crate::{allowance_cases, refused_number_cases, valid, write_cases};
 use std::fmt;
 
 const SEED: u64 = 20_172_400;
 const CASES_BY_CHANCE: u64 = 2_500;
 const WRITES_BY_CHANCE: u64 = 240;
 const ALLOWANCES_BY_CHANCE: u64 = 100;
+const REFUSED_NUMBERS_BY_CHANCE: u64 = 240;
+
+/// How many cases were written by hand before the requests C-12, C-13 and C-14.
+const WRITTEN_BY_HAND_BEFORE: [usize; 3] = [265, 315, 326];
 
 /// Chosen among many: its data is accepted, no number of a sensor is 0, and most entries differ from each other.
 const MAP_PROGRAM_CASE: u64 = 8_283;
 
 /// Every refusal of the table.
-pub const REFUSALS: [u8; 15] = [1, 2, 3, 4, 5, 6, 7, 8, 9, 10, 11, 12, 20, 21, 22];
+pub const REFUSALS: [u8; 17] = [1, 2, 3, 4, 5, 6, 7, 8, 9, 10, 11, 12, 20, 21, 22, 31, 32];
 
 /// Every refusal of a write.
-pub const WRITE_REFUSALS: [u8; 9] = [3, 4, 5, 6, 7, 8, 9, 10, 30];
+pub const WRITE_REFUSALS: [u8; 11] = [3, 4, 5, 6, 7, 8, 9, 10, 30, 31, 32];
 
 const KINDS: [u8; 3] = [1, 2, 3];
 
@@ -113,13 +117,13 @@ fn hand_case((letter, bytes): (char, Vec<u8>)) -> Case {
     }
 }
 
-/// All stored cases, in their order. Those of a later request are behind all others, which thereby stay as they were before it: the writes of C-12, then the allowances of C-13.
+/// All stored cases, in their order. Those of a later request are behind all others, which thereby stay as they were before it: the writes of C-12, then the allowances of C-13, then the refused numbers of C-14.
 pub fn stored_cases() -> Vec<Case> {
     let mut cases: Vec<Case> = written_by_hand().into_iter().map(hand_case).collect();
-    let is_write = |case: &Case| case.letter() == 'w';
-    let behind_writes = cases.iter().rposition(is_write).map_or(0, |last| last + 1);
-    let allowances = cases.split_off(behind_writes);
-    let writes = cases.split_off(cases.iter().position(is_write).unwrap_or(cases.len()));
+    let [before_writes, before_allowances, before_refused_numbers] = WRITTEN_BY_HAND_BEFORE;
+    let refused_numbers = cases.split_off(before_refused_numbers);
+    let allowances = cases.split_off(before_allowances);
+    let writes = cases.split_off(before_writes);
     cases.extend(systematic(SEED));
     cases.extend((0..CASES_BY_CHANCE).map(|number| by_chance(SEED, number, false)));
     cases.extend(writes);
@@ -130,6 +134,10 @@ pub fn stored_cases() -> Vec<Case> {
     cases.extend(allowance_cases::systematic(SEED));
     let allowance = |number| allowance_cases::by_chance(SEED, number);
     cases.extend((0..ALLOWANCES_BY_CHANCE).map(allowance));
+    cases.extend(refused_numbers);
+    cases.extend(refused_number_cases::systematic(SEED));
+    let refused_number = |number| refused_number_cases::by_chance(SEED, number);
+    cases.extend((0..REFUSED_NUMBERS_BY_CHANCE).map(refused_number));
     cases
 }
 
@@ -157,11 +165,12 @@ pub fn missing(seen: &Seen) -> Vec<String> {
     let mut missing = Vec::new();
     for number in REFUSALS {
         let (count, places) = refusals_and_places(seen, number);
-        // 20 to 22 have one place, 0.
-        let enough = if number < 20 {
-            places >= 20
-        } else {
+        // 20 to 22 have one place, 0, and 31 has one, 11.
+        let has_one_place = matches!(number, 20..=22 | 31);
+        let enough = if has_one_place {
             count >= 20
+        } else {
+            places >= 20
         };
         if !enough {
             missing.push(format!(
@@ -179,6 +188,7 @@ pub fn missing(seen: &Seen) -> Vec<String> {
         counts.push((format!("writes refused with {number}"), count));
     }
     counts.extend(seen.allowances.counts());
+    counts.extend(seen.refused_numbers.counts());
     let too_few = counts.iter().filter(|(_, count)| *count < 20);
     missing.extend(too_few.map(|(name, count)| format!("{name}: {count}")));
     missing
@@ -254,6 +264,7 @@ impl fmt::Display for Seen {
             writeln!(f, "refusal {number}: {count} at {places} places")?;
         }
         self.writes.fmt(f)?;
+        self.refused_numbers.fmt(f)?;
         excess_line(f, "entries", &self.entries)?;
         excess_line(f, "answers from the first torque upwards", &self.answers)?;
         excess_line(f, "answers below the first torque", &self.answers_below)

@@ -81,7 +81,7 @@ const SENSORS: [[u16; 9]; 3] = [
 const ROWS: [[u32; 3]; 4] = [[99, 55, 40], [100, 38, 62], [98, 51, 43], [100, 44, 56]];
 
 /// Data of a kind with two speeds and two torques. It is still accepted with its line, its ratio or a number of a sensor at an end of the range.
-fn small_data(kind: u8) -> Data {
+pub fn small_data(kind: u8) -> Data {
     let mut fields = Field::of_every_kind(kind, 2, 3_000, &[100, 200], &[1, 6]);
     match kind {
         2 => {

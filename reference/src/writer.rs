@@ -1,5 +1,6 @@
 //! Document 02, request C-12, "Writing component data": the numbers are tested
-//! in the order of the reader, and laid out as the fields of their kind.
+//! in the order of the reader, and laid out as the fields of their kind. Refusals
+//! 31 and 32 are those of request C-14.
 //! The rules of a row, 7 to 10, are those of the build.
 
 use crate::component::{
@@ -72,7 +73,7 @@ fn refused<T>(number: u8) -> Result<T, Refusal> {
     Err(Refusal::at(number, 0))
 }
 
-/// The numbers that stand in the file; they have passed refusals 3 to 10.
+/// The numbers that stand in the file; they have passed refusals 3 to 10, 31 and 32.
 struct TestedNumbers<'numbers> {
     kind: u8,
     line: u8,
@@ -93,7 +94,7 @@ impl TestedNumbers<'_> {
     fn of(numbers: &HandedNumbers) -> Result<TestedNumbers<'_>, Refusal> {
         let kind = tested_byte(numbers.kind, KIND_RANGE)?;
         let line = tested_byte(numbers.line, LINE_RANGE)?;
-        test_number(numbers.ratio, &RATIO_RANGE)?;
+        test_ratio(numbers.ratio)?;
         let speeds = tested_axis(&numbers.speeds, &SPEED_RULE)?;
         let torques = tested_axis(&numbers.torques, &TORQUE_RULE)?;
         if !first_torque_allowed(torques) {
@@ -175,10 +176,18 @@ impl Measurement<'_> {
     }
 }
 
-/// Refusal 4.
+/// Refusal 4 of a kind, a line or an axis number.
 fn test_number(number: u16, range: &RangeInclusive<u16>) -> Result<(), Refusal> {
     if !range.contains(&number) {
         return refused(4);
+    }
+    Ok(())
+}
+
+/// Refusal 31.
+fn test_ratio(ratio: u16) -> Result<(), Refusal> {
+    if !RATIO_RANGE.contains(&ratio) {
+        return Err(Refusal::at_index(31, 0, 0));
     }
     Ok(())
 }
@@ -204,9 +213,9 @@ fn tested_axis<'axis>(axis: &'axis Axis, rule: &AxisRule) -> Result<&'axis [u16]
     Ok(numbers)
 }
 
-/// Refusal 4 of a sensor's numbers, from left to right.
+/// Refusal 32 of a sensor's numbers, from left to right.
 fn tested_sensor(numbers: [u16; 9]) -> Result<Sensor, Refusal> {
-    Sensor::of(numbers).or_else(|_| refused(4))
+    Sensor::of(numbers).map_err(|index| Refusal::at_index(32, 0, index))
 }
 
 /// Rows with one torque for each sensor, the input's first.

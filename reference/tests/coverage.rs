@@ -213,7 +213,7 @@ enum Told {
 }
 
 fn told(data: &[u8], refusal: Refusal) -> Told {
-    let Refusal { number, place } = refusal;
+    let Refusal { number, place, .. } = refusal;
     let mut head = 0;
     for tag in TAGS {
         if place == head {
@@ -225,6 +225,8 @@ fn told(data: &[u8], refusal: Refusal) -> Told {
         if place < start + length {
             let within = place - start;
             let within = if tag == 10 { within % 12 } else { within };
+            let index = matches!(tag, 3 | 6 | 7 | 9).then_some(within / 2);
+            assert_eq!(refusal.index, index, "{refusal:?} at tag {tag}");
             return Told::InBody(number, tag, within);
         }
         head = start + length;
@@ -259,9 +261,16 @@ fn kind_3_is_refused_at_every_kind_of_place() {
     for tag in &TAGS[1..] {
         due.extend([1, 2, 3].map(|number| Told::AtHead(number, *tag)));
     }
-    due.extend([(2, 0), (3, 0)].map(|(tag, within)| Told::InBody(4, tag, within)));
-    for (tag, numbers) in [(4, 0..2), (5, 0..2), (6, 0..9), (7, 0..9), (9, 0..9)] {
-        due.extend(numbers.map(|number| Told::InBody(4, tag, 2 * number)));
+    due.push(Told::InBody(4, 2, 0));
+    due.push(Told::InBody(31, 3, 0));
+    for (number, tag, indices) in [
+        (4, 4, 0..2),
+        (4, 5, 0..2),
+        (32, 6, 0..9),
+        (32, 7, 0..9),
+        (32, 9, 0..9),
+    ] {
+        due.extend(indices.map(|index| Told::InBody(number, tag, 2 * index)));
     }
     due.extend([4, 5].map(|tag| Told::InBody(5, tag, 2)));
     due.push(Told::InBody(6, 5, 0));
@@ -271,17 +280,21 @@ fn kind_3_is_refused_at_every_kind_of_place() {
     due.push(Told::Behind(12));
     let missing: Vec<&Told> = due.iter().filter(|told| !found.contains(told)).collect();
     assert_eq!(missing, Vec::<&Told>::new());
-    // A row has no other refusals, and they have no other places.
+    // A ratio, a sensor and a row have no other refusals, and those of a row have no other places.
     for told in &found {
-        if let Told::InBody(number, 10, within) = told {
-            let places: &[usize] = match number {
-                7 => &[0, 4, 8],
-                8 => &[4],
-                9 | 10 => &[0],
-                _ => &[],
-            };
-            assert!(places.contains(within), "{told:?}");
-        }
+        let places: &[usize] = match told {
+            Told::InBody(number, 3, _) if *number != 31 => &[],
+            Told::InBody(number, 6 | 7 | 9, _) if *number != 32 => &[],
+            Told::InBody(7, 10, _) => &[0, 4, 8],
+            Told::InBody(8, 10, _) => &[4],
+            Told::InBody(9 | 10, 10, _) => &[0],
+            Told::InBody(_, 10, _) => &[],
+            _ => continue,
+        };
+        let Told::InBody(_, _, within) = told else {
+            continue;
+        };
+        assert!(places.contains(within), "{told:?}");
     }
 }
 
@@ -326,7 +339,7 @@ fn sensor_numbers_of_kind_3_are_refused_at_both_ends() {
         for (index, (lowest, highest)) in SENSOR_RANGES.into_iter().enumerate() {
             let with = |wrong: u16| {
                 refused.iter().any(|(data, refusal)| {
-                    told(data, *refusal) == Told::InBody(4, tag, 2 * index)
+                    told(data, *refusal) == Told::InBody(32, tag, 2 * index)
                         && data[refusal.place..].starts_with(&wrong.to_be_bytes())
                 })
             };

@@ -1,4 +1,4 @@
-//! cases/cases.txt against cases/answers.txt, which a third program reckoned in exact fractions, with the allowance of request C-13; those of kind 3, of the writer and of that request, the last ones, were reckoned by hand, but for the very last one.
+//! cases/cases.txt against cases/answers.txt, which a third program reckoned in exact fractions, with the allowance of request C-13; those of kind 3, of the writer, of that request and of request C-14, the last ones, were reckoned by hand, but for the last one of C-13.
 
 use reference::component;
 use reference::listing::report;
@@ -10,7 +10,7 @@ use reference::stored::{question_of, write_of, written_by_hand};
 use reference::writer;
 
 fn refused(refusal: Refusal) -> String {
-    format!("{refusal}\n")
+    refusal.line_with_index() + "\n"
 }
 
 fn question_answer(bytes: &[u8]) -> String {
@@ -55,7 +55,7 @@ fn answer((letter, bytes): (char, Vec<u8>)) -> String {
 #[test]
 fn answers_are_those_of_the_third_program_and_of_the_hand() {
     let cases = written_by_hand();
-    assert_eq!(cases.len(), 178 + 87 + 50 + 11);
+    assert_eq!(cases.len(), 178 + 87 + 50 + 11 + 46);
     let answers: String = cases.into_iter().map(answer).collect();
     assert_eq!(answers, include_str!("../cases/answers.txt"));
 }

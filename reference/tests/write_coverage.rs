@@ -96,14 +96,30 @@ fn numbers_are_accepted_at_both_ends() {
     }
 }
 
-/// The first number outside its range, and its place, in a map with two speeds and two torques that is refused with 4.
+/// The refusal of a number at a place among those that have a range.
+fn refusal_of_number(place: usize) -> Refusal {
+    let (number, index) = match place {
+        RATIO => (31, Some(0)),
+        SENSORS.. => (32, Some((place - SENSORS) % 9)),
+        _ => (4, None),
+    };
+    Refusal {
+        number,
+        place: 0,
+        index,
+    }
+}
+
+/// The first number outside its range, and its place, in a map with two speeds and two torques that is refused for a number.
 fn first_outside(write: &Write) -> Option<(usize, u16)> {
-    if write.counts() != (2, 2) || !write.refused_with(4) {
+    let refusal = write.answer.err()?;
+    if write.counts() != (2, 2) || !matches!(refusal.number, 4 | 31 | 32) {
         return None;
     }
     let outside =
         |(_, (number, (low, high))): &(usize, (u16, (u16, u16)))| number < low || number > high;
     let (place, (number, _)) = write.ranged().into_iter().enumerate().find(outside)?;
+    assert_eq!(refusal, refusal_of_number(place), "{:?}", write.numbers);
     Some((place, number))
 }
 
@@ -134,8 +150,8 @@ fn numbers_are_refused_just_outside_their_ranges() {
 fn each_kind_has_each_of_its_refusals() {
     for number in WRITE_REFUSALS {
         for kind in 1..=3 {
-            let of_rows = (7..=10).contains(&number);
-            if kind > 1 || !of_rows {
+            let of_measurement = matches!(number, 7..=10 | 32);
+            if kind > 1 || !of_measurement {
                 let what = format!("refusal {number}");
                 occurs(kind, &what, |write| write.refused_with(number));
             }
@@ -253,13 +269,16 @@ fn what_is_not_looked_at_is_wrong() {
     }
 }
 
-/// How many cases were stored before there were writes, and before there were those of the allowances. They keep their numbers.
+/// How many cases were stored before there were writes, before there were those of the allowances, and before those of the refused numbers. They keep their numbers.
 const CASES_BEFORE_WRITES: usize = 4_942;
 const CASES_BEFORE_ALLOWANCES: usize = 6_209;
+const CASES_BEFORE_REFUSED_NUMBERS: usize = 6_446;
 
 #[test]
 fn writes_are_between_earlier_and_later_cases() {
-    for (number, case) in stored_cases().iter().enumerate() {
+    let cases = stored_cases();
+    let earlier = cases.iter().take(CASES_BEFORE_REFUSED_NUMBERS);
+    for (number, case) in earlier.enumerate() {
         let is_due = (CASES_BEFORE_WRITES..CASES_BEFORE_ALLOWANCES).contains(&number);
         assert_eq!(case.letter() == 'w', is_due, "case {number}");
     }

@@ -63,8 +63,11 @@ fn accepted_and_refused_as_by_the_build() {
                 accepted += 1;
             }
             (Err(refusal), Err(of_build)) => {
-                let expected = (of_build.number, 0);
-                assert_eq!((refusal.number, refusal.place), expected, "{numbers:?}");
+                let expected = Refusal {
+                    place: 0,
+                    ..of_build
+                };
+                assert_eq!(refusal, expected, "{numbers:?}");
                 *refused.entry(refusal.number).or_insert(0) += 1;
             }
             (answer, of_build) => panic!("{answer:?} and {of_build:?} of {numbers:?}"),
@@ -73,7 +76,7 @@ fn accepted_and_refused_as_by_the_build() {
     assert!(accepted > 1_000, "{accepted}");
     assert_eq!(
         refused.keys().copied().collect::<Vec<u8>>(),
-        [3, 4, 5, 6, 7, 8, 9, 10]
+        [3, 4, 5, 6, 7, 8, 9, 10, 31, 32]
     );
     assert!(refused.values().all(|count| *count > 30), "{refused:?}");
 }

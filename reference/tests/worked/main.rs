@@ -1,4 +1,4 @@
-//! Document 01's worked cases and boundaries, and those of requests C-11 to C-13, over the public interface.
+//! Document 01's worked cases and boundaries, and those of requests C-11 to C-14, over the public interface.
 
 mod exactness;
 mod half_shafts;

@@ -127,7 +127,7 @@ fn kind_line_and_ratio() {
     }
     for ratio in [0, 999, 20_001] {
         let numbers = Numbers { ratio, ..example() };
-        assert_eq!(numbers.build(), refused(4, 11));
+        assert_eq!(numbers.build(), refused_at_index(31, 11, 0));
     }
     for ratio in [1_000, 20_000] {
         assert!(Numbers { ratio, ..example() }.build().is_ok());
@@ -188,9 +188,10 @@ fn expect_sensor_ranges(numbers: &Numbers) {
             let place = 30 + 21 * sensor + 2 * index;
             assert_eq!(with(least), refused(11, 4));
             assert_eq!(with(most), refused(11, 4));
-            assert_eq!(with(most + 1), refused(4, place));
+            let expected = refused_at_index(32, place, index);
+            assert_eq!(with(most + 1), expected);
             if least > 0 {
-                assert_eq!(with(least - 1), refused(4, place));
+                assert_eq!(with(least - 1), expected);
             }
         }
     }

@@ -150,7 +150,20 @@ pub fn lent_of(speeds: &[u16], torques: &[u16], entries: &[u32]) -> LentMap {
 }
 
 pub fn refused<T>(number: u8, place: usize) -> Result<T, Refusal> {
-    Err(Refusal { number, place })
+    Err(Refusal {
+        number,
+        place,
+        index: None,
+    })
+}
+
+/// Refusal 31 or 32 of request C-14, of the number with this index in its field.
+pub fn refused_at_index<T>(number: u8, place: usize, index: usize) -> Result<T, Refusal> {
+    Err(Refusal {
+        number,
+        place,
+        index: Some(index),
+    })
 }
 
 /// The map program's example.

@@ -101,7 +101,8 @@ fn kind_line_and_ratio() {
             assert_eq!(changed(&numbers, |n| n.line = wrong), refused(4, 0));
         }
         for wrong in [0, 999, 20_001, 65_535] {
-            assert_eq!(changed(&numbers, |n| n.ratio = wrong), refused(4, 0));
+            let expected = refused_at_index(31, 0, 0);
+            assert_eq!(changed(&numbers, |n| n.ratio = wrong), expected);
         }
         for line in 1..=5 {
             assert_eq!(changed(&numbers, |n| n.line = line), Ok(()));
@@ -172,9 +173,10 @@ fn expect_sensor_ranges(numbers: &Numbers) {
             };
             assert_eq!(with(least), refused(3, 0));
             assert_eq!(with(most), refused(3, 0));
-            assert_eq!(with(most + 1), refused(4, 0));
+            let expected = refused_at_index(32, 0, index);
+            assert_eq!(with(most + 1), expected);
             if least > 0 {
-                assert_eq!(with(least - 1), refused(4, 0));
+                assert_eq!(with(least - 1), expected);
             }
         }
     }
@@ -270,7 +272,12 @@ fn what_is_not_looked_at() {
         }
         let right = |n: &mut HandedNumbers| n.sensors[2] = [filling; 9];
         assert_eq!(changed(&measured, right), Ok(()));
-        assert_eq!(changed(&sides, right), refused(4, 0));
+        let expected = match filling {
+            // N may be 1, but no k.
+            1 => refused_at_index(32, 0, 4),
+            _ => refused_at_index(32, 0, 0),
+        };
+        assert_eq!(changed(&sides, right), expected);
         for numbers in [&standard, &measured, &sides] {
             let mut handed = numbers.handed();
             handed.speeds.numbers[2..].fill(filling);
