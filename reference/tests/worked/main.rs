@@ -5,6 +5,7 @@ mod half_shafts;
 mod queries;
 mod reckoned;
 mod refusals;
+mod refused_numbers;
 mod support;
 mod traces;
 mod writing;
