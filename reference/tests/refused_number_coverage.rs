@@ -376,6 +376,22 @@ fn expect_refused_outside(letter: char, kind: u16, sensor: usize, index: usize) 
     }
 }
 
+/// Those by chance: the others have two speeds and two torques.
+#[test]
+fn numbers_are_refused_behind_longer_axes() {
+    for letter in LETTERS {
+        let longer = CASES.iter().filter(|(handed, _)| {
+            let axis_numbers = handed.speeds.len() + handed.torques.len();
+            handed.letter == letter && axis_numbers > 4
+        });
+        let refusals: Vec<Refusal> = longer.filter_map(|(h, _)| h.answer.err()).collect();
+        for number in [31, 32] {
+            let count = refusals.iter().filter(|r| r.number == number).count();
+            assert!(count >= 10, "letter {letter}, {number}: {count}");
+        }
+    }
+}
+
 #[test]
 fn ratios_at_both_ends_and_beyond() {
     for (letter, kind) in letters_and_kinds(&[1, 2, 3]) {
