@@ -1,5 +1,5 @@
 -- Demand 1, in short: every data ends in a map or in one refusal, and a refusal leaves what was lent. Assumes nothing.
-use Prim.Native.Nat.{ℕ, ◌+◌, ◌*◌, ◌≤◌}
+use Prim.Native.Nat.{ℕ, ◌+◌, ◌*◌, ◌≤◌, ◌<◌}
 use mathlib.Core.Path.{◌≡◌, refl, ap}
 use mathlib.Core.Bool.{Bool}
 use mathlib.Core.List.{List, [], ◌∷◌}
@@ -8,6 +8,7 @@ use native.Mathlib.Omega.{arith}
 use Rattle.refusal.specs.Outcome.{Told, refusal, Outcome, accepted, refused}
 use Rattle.refusal.specs.declared.Refusal.{Refusal}
 use Rattle.grid.specs.declared.Range.{Range}
+use Rattle.fields.specs.Field.{ratio_refusal}
 use Rattle.component.specs.Component.{Component, Kind, standard, measured, sensor_tags}
 use Rattle.layout.specs.Rules.{AreBytes, sensors_start}
 use Rattle.layout.specs.Faults.{HeadFault, head_incomplete, other_tag, none_left, other_length, body_incomplete, FieldFault, in_head, in_body, NumberFault, AxisFault, TorqueFault, numbers_wrong, step_wrong, SensorFault}
@@ -16,20 +17,22 @@ use Rattle.loss.specs.Measured.{Output, Row}
 use Rattle.map.specs.Build.{LossMap, points, build}
 use Rattle.map.specs.Acceptance.{PointFault, Reason, in_data, too_few, in_row}
 use Rattle.rows.specs.Acceptance.{OutputsFault, RowFault, input_above, output_above, off_axis, negative, too_large}
-use Rattle.std.specs.Prelude.{Err}
+use Rattle.std.specs.Prelude.{Some, None, Err}
 use Rattle.map.specs.Answers.{Builds}
 use Rattle.map.proofs.Acceptance.{build_refused}
 
 -- ---- the refusals of a build
 
--- a number from 1 to 12
-abbrev pub OfBuild : Told → Type 0
-OfBuild t = (1 ≤ t.number) × (t.number ≤ 12)
+-- with a number from 1 to 12, and then it does not say which number of a field it was; with 31, of the ratio, which is number 0; or with 32, of one of a sensor's nine
+pub data OfBuild (t : Told) : Type 0 where
+  without_index : 1 ≤ t.number → t.number ≤ 12 → t.index ≡ None → OfBuild t
+  of_ratio : t.number ≡ 31 → t.index ≡ Some 0 → OfBuild t
+  of_sensor : (i : ℕ) → i < 9 → t.number ≡ 32 → t.index ≡ Some i → OfBuild t
 
 told_so : (t : Told) (number place : ℕ) → t ≡ refusal number place → 1 ≤ number → number ≤ 12 → OfBuild t
 told_so t number place e low high =
     let n : t.number ≡ number = ap (λ (u : Told). u.number) e in
-    (omega arith, omega arith)
+    without_index (omega arith) (omega arith) (ap (λ (u : Told). u.index) e)
 
 module _ (bytes : List ℕ) (t : Told) where
   of_head : (at tag : ℕ) (allowed : ℕ → Bool) → HeadFault bytes at tag allowed t → OfBuild t
@@ -44,31 +47,34 @@ module _ (bytes : List ℕ) (t : Told) where
   of_field at tag allowed BodyFault f (in_head h) = of_head at tag allowed h
   of_field at tag allowed BodyFault f (in_body body _ h) = f body (at + 3) h
 
-  of_number : (range : Range) (body : List ℕ) (place : ℕ) → NumberFault range body place t → OfBuild t
-  of_number range body place h = told_so t 4 place h.told (omega arith) (omega arith)
+  of_number_fault : (range : Range) (body : List ℕ) (place : ℕ) → NumberFault range (refusal 4) body place t → OfBuild t
+  of_number_fault range body place h = told_so t 4 place h.told (omega arith) (omega arith)
 
-  of_axis : (range : Range) (body : List ℕ) (place : ℕ) → AxisFault range body place t → OfBuild t
-  of_axis range body place h =
+  of_ratio_fault : (range : Range) (body : List ℕ) (place : ℕ) → NumberFault range ratio_refusal body place t → OfBuild t
+  of_ratio_fault range body place h = of_ratio (ap (λ (u : Told). u.number) h.told) (ap (λ (u : Told). u.index) h.told)
+
+  of_axis_fault : (range : Range) (body : List ℕ) (place : ℕ) → AxisFault range body place t → OfBuild t
+  of_axis_fault range body place h =
       ⊎_elim (λ w. told_so t 4 (place + 2 * h.index) w.1 (omega arith) (omega arith)) (λ w. told_so t 5 (place + 2 * h.index) w.3 (omega arith) (omega arith)) h.wrong
 
-  of_torque : (body : List ℕ) (place : ℕ) → TorqueFault body place t → OfBuild t
-  of_torque body place (numbers_wrong h) = of_axis _ body place h
-  of_torque body place (step_wrong _ _ e) = told_so t 6 place e (omega arith) (omega arith)
+  of_torque_fault : (body : List ℕ) (place : ℕ) → TorqueFault body place t → OfBuild t
+  of_torque_fault body place (numbers_wrong h) = of_axis_fault _ body place h
+  of_torque_fault body place (step_wrong _ _ e) = told_so t 6 place e (omega arith) (omega arith)
 
-  of_sensor : (body : List ℕ) (place : ℕ) → SensorFault body place t → OfBuild t
-  of_sensor body place h = told_so t 4 (place + 2 * h.index) h.told (omega arith) (omega arith)
+  of_sensor_fault : (body : List ℕ) (place : ℕ) → SensorFault body place t → OfBuild t
+  of_sensor_fault body place h = of_sensor h.index h.below (ap (λ (u : Told). u.number) h.told) (ap (λ (u : Told). u.index) h.told)
 
   of_sensors : (at : ℕ) (tags : List ℕ) → SensorsFault bytes at tags t → OfBuild t
   of_sensors at [] h = absurd h
-  of_sensors at (tag ∷ tags) (inl h) = of_field at tag _ _ of_sensor h
+  of_sensors at (tag ∷ tags) (inl h) = of_field at tag _ _ of_sensor_fault h
   of_sensors at (tag ∷ tags) (inr h) = of_sensors (at + 21) tags h.2
 
   of_fault : Fault bytes t → OfBuild t
-  of_fault (in_kind h) = of_field _ _ _ _ (of_number _) h
-  of_fault (in_line _ _ _ h) = of_field _ _ _ _ (of_number _) h
-  of_fault (in_ratio _ _ _ _ _ _ h) = of_field _ _ _ _ (of_number _) h
-  of_fault (in_speeds _ _ _ _ h) = of_field _ _ _ _ (of_axis _) h
-  of_fault (in_torques _ _ _ _ _ _ h) = of_field _ _ _ _ of_torque h
+  of_fault (in_kind h) = of_field _ _ _ _ (of_number_fault _) h
+  of_fault (in_line _ _ _ h) = of_field _ _ _ _ (of_number_fault _) h
+  of_fault (in_ratio _ _ _ _ _ _ h) = of_field _ _ _ _ (of_ratio_fault _) h
+  of_fault (in_speeds _ _ _ _ h) = of_field _ _ _ _ (of_axis_fault _) h
+  of_fault (in_torques _ _ _ _ _ _ h) = of_field _ _ _ _ of_torque_fault h
   of_fault (in_sensors kind m n _ _ h) = of_sensors (sensors_start m n) (sensor_tags kind) h
   of_fault (in_rows _ _ _ _ _ _ _ h) = of_field _ _ _ _ (λ body place none. absurd none) h
   of_fault (after_torques _ _ _ _ e) = told_so t 12 _ e (omega arith) (omega arith)
@@ -100,7 +106,7 @@ of_build bytes lent are_bytes t e = of_reason bytes lent t (build_refused bytes 
 
 -- ---- demand 1
 
--- a map, or one refusal whose number is from 1 to 12
+-- a map, or one of these refusals
 pub data Ends (o : Outcome LossMap) : Type 0 where
   in_a_map : (m : LossMap) → o ≡ accepted m → Ends o
   in_a_refusal : (t : Told) → o ≡ refused t → OfBuild t → Ends o

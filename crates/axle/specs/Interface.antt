@@ -1,7 +1,7 @@
--- An answer as C has it: the number of the refusal in document 01's table, 0 where there is none (no row of the table has the number 0), its place, and the values, which are 0 where it is refused.
-use Rattle.std.specs.Prelude.{ℕ, ℤ, pos, Result, Ok, Err}
+-- An answer as C has it: the number of the refusal in document 01's table, 0 where there is none (no row of the table has the number 0), its place, and the values, which are 0 where it is refused. Where a refusal can say which number of its field it was, also whether it says so, and that number.
+use Rattle.std.specs.Prelude.{ℕ, ℤ, pos, Option, Some, None, Result, Ok, Err}
 use Rattle.refusal.specs.Outcome.{Outcome, accepted, refused}
-use Rattle.refusal.specs.Table.{number, place}
+use Rattle.refusal.specs.Table.{number, place, index}
 use Rattle.refusal.specs.declared.Refusal.{Refusal}
 use Rattle.lookup.specs.declared.GridPoint.{GridPoint}
 use Rattle.grid.specs.Parts.{grid_of}
@@ -11,11 +11,22 @@ use Rattle.axle.specs.declared.Status.{Status}
 use Rattle.axle.specs.declared.AxleLoss.{AxleLoss}
 use Rattle.axle.specs.declared.AxleNearest.{AxleNearest}
 use Rattle.axle.specs.declared.AxleLength.{AxleLength}
+use Rattle.axle.specs.declared.AxleWritten.{AxleWritten}
 use Rattle.axle.specs.declared.AxleNumbers.{AxleNumbers}
 
+-- whether an index is told, 1 or 0
+abbrev pub has_index : Option ℕ → ℕ
+has_index None = 0
+has_index (Some i) = 1
+
+-- and the index, 0 where none is
+abbrev pub index_or_zero : Option ℕ → ℕ
+index_or_zero None = 0
+index_or_zero (Some i) = i
+
 abbrev pub status_of : {A : Type 0} → Result A Refusal → Status
-status_of (Ok value) = record { refusal = 0; place = 0 }
-status_of (Err x) = record { refusal = number x; place = place x }
+status_of (Ok value) = record { refusal = 0; place = 0; has_index = 0; index = 0 }
+status_of (Err x) = record { refusal = number x; place = place x; has_index = has_index (index x); index = index_or_zero (index x) }
 
 abbrev pub loss_of : Outcome ℤ → AxleLoss
 loss_of (accepted z) = record { refusal = 0; place = 0; loss = z }
@@ -25,10 +36,15 @@ abbrev pub nearest_of : Outcome GridPoint → AxleNearest
 nearest_of (accepted p) = record { refusal = 0; place = 0; speed = p.speed; torque = p.torque }
 nearest_of (refused t) = record { refusal = t.number; place = t.place; speed = 0; torque = 0 }
 
--- the length of what was written
+-- the length of a listing
 abbrev pub length_of : Outcome ℕ → AxleLength
 length_of (accepted n) = record { refusal = 0; place = 0; length = n }
 length_of (refused t) = record { refusal = t.number; place = t.place; length = 0 }
+
+-- the length of a file that was written
+abbrev pub written_of : Outcome ℕ → AxleWritten
+written_of (accepted n) = record { refusal = 0; has_index = 0; place = 0; index = 0; length = n }
+written_of (refused t) = record { refusal = t.number; has_index = has_index t.index; place = t.place; index = index_or_zero t.index; length = 0 }
 
 -- numbers that C hands over
 abbrev pub numbers_in : AxleNumbers → Numbers

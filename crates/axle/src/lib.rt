@@ -11,7 +11,7 @@ ghost use Rattle.lookup.specs.Nearest.{nearest_answer};
 ghost use Rattle.listing.specs.Listing.{listing, listed};
 ghost use Rattle.buffer.specs.Written.{content_of};
 ghost use Rattle.writer.specs.Written.{written, file_after};
-ghost use Rattle.axle.specs.Interface.{status_of, loss_of, nearest_of, length_of, numbers_in};
+ghost use Rattle.axle.specs.Interface.{status_of, loss_of, nearest_of, length_of, written_of, numbers_in};
 ghost use Rattle.axle.specs.Build.{BuiltOf, BuildsForC};
 
 use cell::Point;
@@ -21,12 +21,14 @@ use numbers::Numbers;
 use refusal::Refusal;
 use sensor::Sensor;
 
-// The number of a refusal in document 01's table and its place, as each answer for C holds them; both 0 where nothing is
-// refused.
+// The number of a refusal in document 01's table and its place, as each answer for C holds them, and where it says which number
+// of its field it was, 1 and that number; 0 where nothing is refused, or nothing said.
 #[derive(Clone, Copy)]
 pub struct Status {
     pub refusal: u32,
+    pub has_index: u32,
     pub place: usize,
+    pub index: usize,
 }
 
 // A map that was built: its axes. Where the build is refused the counts are 0 and the numbers mean nothing.
@@ -34,7 +36,9 @@ pub struct Status {
 #[derive(Clone, Copy)]
 pub struct AxleBuilt {
     pub refusal: u32,
+    pub has_index: u32,
     pub place: usize,
+    pub index: usize,
     pub speeds: [u16; 32],
     pub speed_count: usize,
     pub torques: [u16; 64],
@@ -60,12 +64,23 @@ pub struct AxleNearest {
     pub torque: u16,
 }
 
-// How many bytes were written, 0 where the call is refused.
+// How many bytes a listing has, 0 where it is refused.
 #[repr(C)]
 #[derive(Clone, Copy)]
 pub struct AxleLength {
     pub refusal: u32,
     pub place: usize,
+    pub length: usize,
+}
+
+// How many bytes a file has that was written, 0 where the call is refused.
+#[repr(C)]
+#[derive(Clone, Copy)]
+pub struct AxleWritten {
+    pub refusal: u32,
+    pub has_index: u32,
+    pub place: usize,
+    pub index: usize,
     pub length: usize,
 }
 
@@ -91,11 +106,15 @@ fn status_of<T>(answer: &Result<T, Refusal>) -> Status
     match answer {
         Ok(_) => Status {
             refusal: 0,
+            has_index: 0,
             place: 0,
+            index: 0,
         },
         Err(x) => Status {
             refusal: u32::from(x.number()),
+            has_index: u32::from(x.index().is_some()),
             place: x.place(),
+            index: x.index().unwrap_or(0),
         },
     }
 }
@@ -111,7 +130,9 @@ impl From<Result<Grid, Refusal>> for AxleBuilt {
         let torque_numbers = torques.numbers;
         AxleBuilt {
             refusal: status.refusal,
+            has_index: status.has_index,
             place: status.place,
+            index: status.index,
             speeds: speed_numbers,
             speed_count: speeds.count,
             torques: torque_numbers,
@@ -156,6 +177,21 @@ impl From<Result<usize, Refusal>> for AxleLength {
         AxleLength {
             refusal: status.refusal,
             place: status.place,
+            length: answer.unwrap_or(0),
+        }
+    }
+}
+
+impl From<Result<usize, Refusal>> for AxleWritten {
+    ghost from_gives = { λ answer written. written ≡ written_of (outcome_of answer) };
+
+    fn from(answer: Result<usize, Refusal>) -> AxleWritten {
+        let status = status_of(&answer);
+        AxleWritten {
+            refusal: status.refusal,
+            has_index: status.has_index,
+            place: status.place,
+            index: status.index,
             length: answer.unwrap_or(0),
         }
     }
@@ -264,8 +300,8 @@ pub fn axle_listing(
 }
 
 // Writes component data from its numbers, and the torques of its rows in the order of the data, to the first bytes of the lent file.
-pub fn axle_write(numbers: AxleNumbers, rows: &[u32], file: &mut [u8]) -> AxleLength
-    ensures answer { result ≡ length_of (written (numbers_in numbers) rows.now (length file.old)) }
+pub fn axle_write(numbers: AxleNumbers, rows: &[u32], file: &mut [u8]) -> AxleWritten
+    ensures answer { result ≡ written_of (written (numbers_in numbers) rows.now (length file.old)) }
     ensures file_after { file.new ≡ file_after (numbers_in numbers) rows.now file.old }
 {
     let numbers = Numbers::from(numbers);

@@ -9,10 +9,10 @@ ghost use Rattle.lookup.specs.Nearest.{nearest_answer};
 ghost use Rattle.listing.specs.Listing.{listing, listed};
 ghost use Rattle.buffer.specs.Written.{content_of};
 ghost use Rattle.writer.specs.Written.{written, file_after};
-ghost use Rattle.axle.specs.Interface.{loss_of, nearest_of, length_of, numbers_in};
+ghost use Rattle.axle.specs.Interface.{loss_of, nearest_of, length_of, written_of, numbers_in};
 ghost use Rattle.axle.specs.Build.{BuildsForC};
 
-use axle::{AxleBuilt, AxleLength, AxleLoss, AxleNearest, AxleNumbers};
+use axle::{AxleBuilt, AxleLength, AxleLoss, AxleNearest, AxleNumbers, AxleWritten};
 
 // Builds the map of component data: its axes in the answer, its entries in the lent slice.
 #[unsafe(no_mangle)]
@@ -90,8 +90,8 @@ pub extern "C" fn axle_listing(
 
 // Writes component data from its numbers, and the torques of its rows in the order of the data, to the first bytes of the lent file.
 #[unsafe(no_mangle)]
-pub extern "C" fn axle_write(numbers: AxleNumbers, rows: &[u32], file: &mut [u8]) -> AxleLength
-    ensures answer { result ≡ length_of (written (numbers_in numbers) rows.now (length file.old)) }
+pub extern "C" fn axle_write(numbers: AxleNumbers, rows: &[u32], file: &mut [u8]) -> AxleWritten
+    ensures answer { result ≡ written_of (written (numbers_in numbers) rows.now (length file.old)) }
     ensures file_after { file.new ≡ file_after (numbers_in numbers) rows.now file.old }
 {
     axle::axle_write(numbers, rows, file)

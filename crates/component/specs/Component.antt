@@ -1,8 +1,8 @@
--- Document 01, "Component data" and "Refusals", and document 02, C-11: the fields of component data in their order, and 12 where more follows.
+-- Document 01, "Component data" and "Refusals", and document 02, C-11 and C-14: the fields of component data in their order, and 12 where more follows.
 use Rattle.std.specs.Prelude.{ℕ, ◌+◌, ◌*◌, List, [], ◌∷◌, leb, eqb, length, if◌then◌else◌}
-use Rattle.refusal.specs.Outcome.{Outcome, accepted, ◌>>=◌, require}
+use Rattle.refusal.specs.Outcome.{refusal, Outcome, accepted, ◌>>=◌, require}
 use Rattle.grid.specs.Axis.{◌to◌, first_step}
-use Rattle.fields.specs.Field.{field, exactly, numbers, number, axis}
+use Rattle.fields.specs.Field.{field, exactly, numbers, number, ratio_refusal, axis}
 use Rattle.fields.specs.Sensor.{sensor}
 use Rattle.sensor.specs.declared.Sensor.{Sensor}
 
@@ -62,9 +62,9 @@ pub record Axle : Type 0 where
 
 unfoldable pub axle_fields : List ℕ → ℕ → Outcome (Run Axle)
 axle_fields bytes at = do
-  kind ← field bytes at 1 (exactly 1) (number (1 to 3))
-  line ← field bytes kind.next 2 (exactly 1) (number (1 to 5))
-  ratio ← field bytes line.next 3 (exactly 2) (number (1000 to 20000))
+  kind ← field bytes at 1 (exactly 1) (number (1 to 3) (refusal 4))
+  line ← field bytes kind.next 2 (exactly 1) (number (1 to 5) (refusal 4))
+  ratio ← field bytes line.next 3 (exactly 2) (number (1000 to 20000) ratio_refusal)
   accepted (record {
     value = record { kind = kind.value; line = line.value; ratio = ratio.value };
     next = ratio.next;

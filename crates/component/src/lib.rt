@@ -9,7 +9,7 @@ ghost use Rattle.component.specs.Answers.{number_of, RunOf, axle_of, axes_of, Co
 
 mod rows;
 
-use fields::{Allowed, Cursor, Width};
+use fields::{Allowed, Cursor, Outside, Width};
 use grid::{Grid, Range};
 use refusal::Refusal;
 pub use rows::Rows;
@@ -118,9 +118,9 @@ struct Axle {
 fn read_axle(start: Cursor<'_>) -> Result<(Axle, Cursor<'_>), Refusal>
     ensures { RunOf start.entry axle_fields axle_of result }
 {
-    let kind = start.number(1, Width::One, KINDS)?;
-    let line = kind.next.number(2, Width::One, LINES)?;
-    let ratio = line.next.number(3, Width::Two, RATIOS)?;
+    let kind = start.number(1, Width::One, KINDS, Outside::Number)?;
+    let line = kind.next.number(2, Width::One, LINES, Outside::Number)?;
+    let ratio = line.next.number(3, Width::Two, RATIOS, Outside::Ratio)?;
     let axle = Axle {
         // there is one, for the number is in its range
         kind: Kind::from_number(kind.value).unwrap(),

@@ -6,20 +6,20 @@ use mathlib.Core.List.{List, ◌++◌}
 use native.Mathlib.Omega.{arith}
 use lib.ListN.{length, take, drop}
 use lib.Seq.{take_at, get_or-take}
-use Rattle.refusal.specs.Outcome.{accepted, refuse}
+use Rattle.refusal.specs.Outcome.{Told, refusal, accepted, refused, refuse}
 use Rattle.grid.specs.Axis.{within, axis_numbers, first_step}
 use Rattle.grid.specs.declared.Range.{Range}
-use Rattle.grid.proofs.Numbers.{numbers_refused}
+use Rattle.grid.proofs.Numbers.{wrong_place, numbers_refused}
 use Rattle.fields.specs.Bytes.{number_of, pairs}
 use Rattle.fields.specs.Field.{number, axis}
 use Rattle.fields.proofs.Pairs.{length_pairs}
 
-module _ (body : List ℕ) (place n : ℕ) (range : Range) (b : Bool) (e : n ≡ number_of body) (w : b ≡ within range n) where
-  pub number_accepted : b ≡ true → accepted n ≡ number range body place
+module _ (body : List ℕ) (place n : ℕ) (range : Range) (refused_at : ℕ → Told) (b : Bool) (e : n ≡ number_of body) (w : b ≡ within range n) where
+  pub number_accepted : b ≡ true → accepted n ≡ number range refused_at body place
   unfolding number
   number_accepted t = rw (← e, ← w, t)
 
-  pub number_refused : b ≡ false → refuse 4 place ≡ number range body place
+  pub number_refused : b ≡ false → refused (refused_at place) ≡ number range refused_at body place
   unfolding number
   number_refused t = rw (← e, ← w, t)
 
@@ -43,7 +43,7 @@ module _ (body before numbers : List ℕ) (place : ℕ) (range : Range) (filled 
     pub index_below : (number i : ℕ) → refuse number i ≡ axis_numbers range part (length part) → i < length body / 2
     index_below number i h =
         let f = numbers_refused range (pairs body) (length (pairs body)) _ (sym (rw the_numbers at h)) in
-        omega (arith, f.place, f.below, length_pairs body)
+        omega (arith, wrong_place range (pairs body) f.index (refusal number i) f.wrong, f.below, length_pairs body)
 
 -- the first two numbers of an axis are those of the list that they were written to
 pub first_step_lem : (ns : List ℕ) (count : ℕ) (b : Bool) → 2 ≤ count → first_step ns ≡ b → first_step (take count ns) ≡ b

@@ -4,7 +4,7 @@ use mathlib.Core.Path.{◌≡◌, ◌∙◌}
 use mathlib.Core.List.{List, ◌++◌, append-nil}
 use native.Mathlib.Omega.{arith}
 use lib.ListN.{length, drop, drop_of_length-le}
-use Rattle.refusal.specs.Outcome.{accepted, refuse}
+use Rattle.refusal.specs.Outcome.{refusal_with_index, accepted, refused}
 use Rattle.fields.specs.Bytes.{pairs}
 use Rattle.fields.specs.Sensor.{sensor}
 use Rattle.sensor.specs.Sensor.{sensor_check, sensor_of}
@@ -17,7 +17,8 @@ module _ (body before numbers : List ℕ) (place : ℕ) (long : length body ≡ 
       let l : length before ≤ length body / 2 = omega arith in
       filled ∙ rw (drop_of_length-le before l) (append-nil (pairs body))
 
-  pub body_refused : (i : ℕ) → refuse 4 i ≡ sensor_check numbers → refuse 4 (place + 2 * i) ≡ sensor body place
+  pub body_refused : (i : ℕ) → refused (refusal_with_index 32 i i) ≡ sensor_check numbers
+      → refused (refusal_with_index 32 (place + 2 * i) i) ≡ sensor body place
   unfolding sensor
   body_refused i e = rw (← (rw nine at e))
 

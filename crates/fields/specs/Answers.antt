@@ -1,13 +1,16 @@
 -- What the answers about a field say in document 01's terms.
 use Rattle.std.specs.Prelude.{ℕ, Bool, List, ◌≡◌}
 use Rattle.std.specs.Borrow.{Bor}
+use Rattle.refusal.specs.Outcome.{Told, refusal}
 use Rattle.grid.specs.Map.{counted_numbers}
 use Rattle.grid.specs.declared.Axis.{Axis}
-use Rattle.fields.specs.Field.{Head, Field, exactly, numbers}
+use Rattle.fields.specs.Field.{Head, Field, exactly, numbers, ratio_refusal}
 use Rattle.fields.specs.declared.Allowed.{Allowed}
 use Rattle.fields.specs.declared.Allowed.TheVariants.{Exactly, Numbers}
 use Rattle.fields.specs.declared.Width.{Width}
 use Rattle.fields.specs.declared.Width.TheVariants.{One, Two}
+use Rattle.fields.specs.declared.Outside.{Outside}
+use Rattle.fields.specs.declared.Outside.TheVariants.{Number, Ratio}
 use Rattle.fields.specs.declared.Cursor.{Cursor}
 use Rattle.fields.specs.declared.Field.{Field as FieldRead}
 
@@ -20,6 +23,11 @@ allowed_of (Numbers fewest most) = numbers fewest most
 abbrev pub number_bytes : Width → ℕ
 number_bytes One = 1
 number_bytes Two = 2
+
+-- how a number is refused that is not in its range
+abbrev pub outside_of : Outside → (place : ℕ) → Told
+outside_of Number = refusal 4
+outside_of Ratio = ratio_refusal
 
 -- a field with its body
 abbrev pub head_of : FieldRead (Bor (List ℕ)) → Head

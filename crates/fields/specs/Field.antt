@@ -1,6 +1,6 @@
--- Document 01, "Component data" and "Refusals": one field. Its head is a tag in one byte and the length of its body in two.
+-- Document 01, "Component data" and "Refusals", and document 02, C-14 (31): one field. Its head is a tag in one byte and the length of its body in two.
 use Rattle.std.specs.Prelude.{ℕ, ◌+◌, ◌*◌, ◌/◌, ◌%◌, Bool, ◌&&◌, List, leb, ltb, eqb, length, get_or}
-use Rattle.refusal.specs.Outcome.{Outcome, accepted, ◌>>=◌, require, placed}
+use Rattle.refusal.specs.Outcome.{Told, refusal_with_index, Outcome, accepted, ◌>>=◌, require_told, require, placed}
 use Rattle.grid.specs.Axis.{within, axis_numbers}
 use Rattle.grid.specs.declared.Range.{Range}
 use Rattle.fields.specs.Bytes.{number_of, pairs, between}
@@ -43,11 +43,15 @@ field bytes at tag allowed body = do
   value ← body (between bytes found.start found.end) found.start
   accepted (record { value = value; start = found.start; next = found.end })
 
--- a body of one number
-unfoldable pub number : Range → List ℕ → ℕ → Outcome ℕ
-number range body place = do
-  _ ← require (within range (number_of body)) 4 place
+-- a body of one number, and how it is refused at a place where it is not in its range
+unfoldable pub number : Range → (refused_at : (place : ℕ) → Told) → List ℕ → ℕ → Outcome ℕ
+number range refused_at body place = do
+  _ ← require_told (within range (number_of body)) (refused_at place)
   accepted (number_of body)
+
+-- the refusal of a ratio, which is number 0, the only one of its field
+abbrev pub ratio_refusal : (place : ℕ) → Told
+ratio_refusal place = refusal_with_index 31 place 0
 
 -- the place of a number of two bytes, by its index in the body
 abbrev pub offset : ℕ → ℕ → ℕ

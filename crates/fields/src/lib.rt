@@ -2,11 +2,11 @@
 #![tactic(auto)]
 
 ghost use Rattle.std.specs.Prelude.{◌≡◌, ◌++◌, ◌+◌, ◌*◌, ◌/◌, ◌≤◌, ◌<◌, ◌^◌, length, take, drop, IfOk};
-ghost use Rattle.refusal.specs.Table.{outcome_of, outcome_as};
+ghost use Rattle.refusal.specs.Table.{told, outcome_of, outcome_as};
 ghost use Rattle.fields.specs.Bytes.{number_of, pairs, between};
 ghost use Rattle.fields.specs.Field.{head, field, exactly, numbers as numbers_from, number, axis};
 ghost use Rattle.fields.specs.Sensor.{sensor};
-ghost use Rattle.fields.specs.Answers.{allowed_of, head_of, number_bytes, field_of, Due, axis_field_of};
+ghost use Rattle.fields.specs.Answers.{allowed_of, head_of, number_bytes, outside_of, field_of, Due, axis_field_of};
 
 use grid::{Axis, Range};
 use refusal::Refusal;
@@ -79,6 +79,26 @@ impl Width {
     }
 }
 
+// How a number that is not in its range is refused.
+#[derive(Clone, Copy)]
+pub enum Outside {
+    // As a kind and a line are: 4.
+    Number,
+    // As the ratio is: 31.
+    Ratio,
+}
+
+impl Outside {
+    fn refusal(self, place: usize) -> Refusal
+        ensures { told result ≡ outside_of self place }
+    {
+        match self {
+            Outside::Number => Refusal::OutOfRange(place),
+            Outside::Ratio => Refusal::RatioOutOfRange(place),
+        }
+    }
+}
+
 // The reading place in data.
 #[derive(Clone, Copy)]
 pub struct Cursor<'a> {
@@ -132,7 +152,10 @@ fn read_sensor(body: &[u8], place: usize) -> Result<Sensor, Refusal>
     let mut numbers = [0; 9];
     fill(body, &mut numbers);
     match sensor::sensor_fault(&numbers) {
-        Some(i) => Err(Refusal::OutOfRange(place + 2 * i)),
+        Some(index) => Err(Refusal::SensorOutOfRange {
+            place: place + 2 * index,
+            index,
+        }),
         None => Ok(Sensor::from(numbers)),
     }
 }
@@ -174,15 +197,21 @@ impl<'a> Cursor<'a> {
     }
 
     // The field of one number.
-    pub fn number(self, tag: u8, width: Width, range: Range) -> Result<Field<'a, u16>, Refusal>
-        ensures answer { outcome_as field_of result ≡ field self.entry.data.now self.entry.at tag (exactly (number_bytes width)) (number range) }
+    pub fn number(
+        self,
+        tag: u8,
+        width: Width,
+        range: Range,
+        outside: Outside,
+    ) -> Result<Field<'a, u16>, Refusal>
+        ensures answer { outcome_as field_of result ≡ field self.entry.data.now self.entry.at tag (exactly (number_bytes width)) (number range (outside_of outside)) }
         ensures due { IfOk result (λ field. Due self.entry tag field) }
         ensures in_range { IfOk result (λ field. (range.lowest ≤ field.value) × (field.value ≤ range.highest)) }
     {
         let found = self.field(tag, Allowed::Exactly(width.bytes()))?;
         let value = number_of(found.value);
         if !range.contains(value) {
-            return Err(Refusal::OutOfRange(found.start));
+            return Err(outside.refusal(found.start));
         }
         Ok(found.with_value(value))
     }

@@ -18,7 +18,7 @@ use Rattle.grid.specs.Axis.{within, rises, axis_number, axis_numbers, valid_numb
 use Rattle.grid.specs.declared.Range.{Range}
 use Rattle.grid.specs.Counted.{Counted, CountedNumbers}
 use Rattle.grid.proofs.Every.{and_false, and_fst, and_snd, every_at, every_of, every_same}
-use Rattle.refusal.proofs.Steps.{same_refusal}
+use Rattle.refusal.proofs.Steps.{never, same_refusal}
 use Rattle.refusal.proofs.First.{first_all, first_of, first_found}
 
 -- number i is in its range and above the one before
@@ -72,10 +72,14 @@ pub number_level : (range : Range) (ns : List ℕ) (i : ℕ) → within range (g
 unfolding axis_number
 number_level range ns i e f = rw (e, f)
 
--- what is wrong with number i: it is out of its range, or in it and not above the one before
+-- what is wrong with number i, and how it is told: it is out of its range, or in it and not above the one before
 abbrev pub Wrong : Range → List ℕ → ℕ → Told → Type 0
 Wrong range ns i t =
-    ((t.number ≡ 4) × (within range (get_or ns i 0) ≡ false)) ⊎ ((t.number ≡ 5) × (within range (get_or ns i 0) ≡ true) × (rises ns i ≡ false))
+    ((t ≡ refusal 4 i) × (within range (get_or ns i 0) ≡ false)) ⊎ ((t ≡ refusal 5 i) × (within range (get_or ns i 0) ≡ true) × (rises ns i ≡ false))
+
+pub wrong_place : (range : Range) (ns : List ℕ) (i : ℕ) (t : Told) → Wrong range ns i t → t.place ≡ i
+wrong_place range ns i t (inl w) = ap (λ (u : Told). u.place) w.0
+wrong_place range ns i t (inr w) = ap (λ (u : Told). u.place) w.0
 
 two_tests : (i : ℕ) (a b : Bool) → (require a 4 i >>= λ _. require b 5 i) ≡ accepted tt → (a && b) ≡ true
 two_tests i true true e = refl
@@ -86,16 +90,13 @@ pub number_accepted : (range : Range) (ns : List ℕ) (i : ℕ) → axis_number 
 unfolding axis_number
 number_accepted range ns i e = two_tests i (within range (get_or ns i 0)) (rises ns i) e
 
-which_test : (i : ℕ) (t : Told) (a b : Bool) → (require a 4 i >>= λ _. require b 5 i) ≡ refused t → (t.place ≡ i) × (((t.number ≡ 4) × (a ≡ false)) ⊎ ((t.number ≡ 5) × (a ≡ true) × (b ≡ false)))
-which_test i t true true e = let z : ◌≡◌ {A = ℕ} 0 1 = cc in absurd (omega arith)
-which_test i t true false e =
-    let s = sym (same_refusal {A = Unit {0}} (refusal 5 i) t e) in
-    (ap (λ (u : Told). u.place) s, inr (ap (λ (u : Told). u.number) s, refl, refl))
-which_test i t false b e =
-    let s = sym (same_refusal {A = Unit {0}} (refusal 4 i) t e) in
-    (ap (λ (u : Told). u.place) s, inl (ap (λ (u : Told). u.number) s, refl))
+which_test : (i : ℕ) (t : Told) (a b : Bool) → (require a 4 i >>= λ _. require b 5 i) ≡ refused t
+    → ((t ≡ refusal 4 i) × (a ≡ false)) ⊎ ((t ≡ refusal 5 i) × (a ≡ true) × (b ≡ false))
+which_test i t true true e = never t tt (sym e)
+which_test i t true false e = inr (sym (same_refusal (refusal 5 i) t e), refl, refl)
+which_test i t false b e = inl (sym (same_refusal (refusal 4 i) t e), refl)
 
-pub number_refused : (range : Range) (ns : List ℕ) (i : ℕ) (t : Told) → axis_number range ns i ≡ refused t → (t.place ≡ i) × Wrong range ns i t
+pub number_refused : (range : Range) (ns : List ℕ) (i : ℕ) (t : Told) → axis_number range ns i ≡ refused t → Wrong range ns i t
 unfolding axis_number
 number_refused range ns i t e = which_test i t (within range (get_or ns i 0)) (rises ns i) e
 
@@ -120,7 +121,6 @@ numbers_accepted range ns count e = first_of (axis_number range ns) count go
 pub record FirstWrong (range : Range) (ns : List ℕ) (count : ℕ) (t : Told) : Type 0 where
   pub index : ℕ
   pub below : index < count
-  pub place : t.place ≡ index
   pub right : (k : ℕ) → k < index → right_at range ns k ≡ true
   pub wrong : Wrong range ns index t
 
@@ -128,11 +128,9 @@ pub numbers_refused : (range : Range) (ns : List ℕ) (count : ℕ) (t : Told) �
 unfolding axis_numbers
 numbers_refused range ns count t e =
     let s = first_found (axis_number range ns) 0 count t e in
-    let w = number_refused range ns s.at t s.here in
     record {
       index = s.at;
       below = omega arith;
-      place = w.0;
       right = λ k l. number_accepted range ns k (s.passed k zero-le l);
-      wrong = w.1;
+      wrong = number_refused range ns s.at t s.here;
     }

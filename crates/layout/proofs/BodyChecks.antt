@@ -8,7 +8,7 @@ use native.Mathlib.Omega.{arith}
 use native.Mathlib.Decide.{dec_le}
 use borrow.Author.Tests.{le-leb, lt-leb, ltb-false, le-ltb, eqb-true, ne_eqb}
 use lib.ListN.{length, get_or}
-use Rattle.refusal.specs.Outcome.{refusal, Told, Outcome, accepted, refused, refuse, require, ◌>>=◌, first_refusal}
+use Rattle.refusal.specs.Outcome.{refusal, refusal_with_index, at_place, Told, Outcome, accepted, refused, refuse, require, ◌>>=◌, first_refusal}
 use Rattle.refusal.proofs.Steps.{require_accepted, require_refused}
 use Rattle.refusal.proofs.First.{first_refused, first_found}
 use Rattle.grid.specs.Axis.{◌to◌, within, rises, axis_number, axis_numbers, first_step}
@@ -33,29 +33,30 @@ use Rattle.layout.proofs.FieldBytes.{number_of_one, number_of_two, number_bytes_
 use Rattle.layout.proofs.OneField.{Decided, wrong, right, told_as, Checked}
 
 -- ---- a body of one number
-module _ (range : Range) (allowed : ℕ → Bool) (bytes_of : ℕ → List ℕ) (said : (n : ℕ) → number_of (bytes_of n) ≡ n)
-    (only : (body : List ℕ) → AreBytes body → allowed (length body) ≡ true → body ≡ bytes_of (number_of body)) where
-  number_checked : Checked allowed (number range) bytes_of (λ n place. InRange range n) (NumberFault range)
-  unfolding number
-  number_checked =
-      record {
-        decided = λ body place b fits. go body place b fits (within range (number_of body)) refl;
-        accepts = λ n place r. rw (said n, within_range range n r);
-        refuses = λ body place t f. told_as _ t _ (rw (not_within range (number_of body) f.outside)) f.told;
-      }
-    where
-      go : (body : List ℕ) (place : ℕ) → AreBytes body → allowed (length body) ≡ true → (b : Bool) → within range (number_of body) ≡ b
-          → Decided (NumberFault range body place) (λ n. (body ≡ bytes_of n) × InRange range n)
-      go body place b fits true e = right (number_of body) (only body b fits, in_range range (number_of body) e)
-      go body place b fits false e = wrong (refusal 4 place) (record { outside = not_in_range range (number_of body) e; told = refl })
+module _ (range : Range) (refused_at : (place : ℕ) → Told) where
+  module _ (allowed : ℕ → Bool) (bytes_of : ℕ → List ℕ) (said : (n : ℕ) → number_of (bytes_of n) ≡ n)
+      (only : (body : List ℕ) → AreBytes body → allowed (length body) ≡ true → body ≡ bytes_of (number_of body)) where
+    number_checked : Checked allowed (number range refused_at) bytes_of (λ n place. InRange range n) (NumberFault range refused_at)
+    unfolding number
+    number_checked =
+        record {
+          decided = λ body place b fits. go body place b fits (within range (number_of body)) refl;
+          accepts = λ n place r. rw (said n, within_range range n r);
+          refuses = λ body place t f. told_as _ t _ (rw (not_within range (number_of body) f.outside)) f.told;
+        }
+      where
+        go : (body : List ℕ) (place : ℕ) → AreBytes body → allowed (length body) ≡ true → (b : Bool) → within range (number_of body) ≡ b
+            → Decided (NumberFault range refused_at body place) (λ n. (body ≡ bytes_of n) × InRange range n)
+        go body place b fits true e = right (number_of body) (only body b fits, in_range range (number_of body) e)
+        go body place b fits false e = wrong (refused_at place) (record { outside = not_in_range range (number_of body) e; told = refl })
 
-pub one_byte_checked : (range : Range) → Checked (exactly 1) (number range) (λ n. n ∷ []) (λ n place. InRange range n) (NumberFault range)
-one_byte_checked range =
-    number_checked range (exactly 1) (λ n. n ∷ []) number_of_one (λ body b fits. number_bytes_one body (eqb-true (length body) 1 fits))
+  pub one_byte_checked : Checked (exactly 1) (number range refused_at) (λ n. n ∷ []) (λ n place. InRange range n) (NumberFault range refused_at)
+  one_byte_checked =
+      number_checked (exactly 1) (λ n. n ∷ []) number_of_one (λ body b fits. number_bytes_one body (eqb-true (length body) 1 fits))
 
-pub two_bytes_checked : (range : Range) → Checked (exactly 2) (number range) two_bytes (λ n place. InRange range n) (NumberFault range)
-two_bytes_checked range =
-    number_checked range (exactly 2) two_bytes number_of_two (λ body b fits. number_bytes_two body b (eqb-true (length body) 2 fits))
+  pub two_bytes_checked : Checked (exactly 2) (number range refused_at) two_bytes (λ n place. InRange range n) (NumberFault range refused_at)
+  two_bytes_checked =
+      number_checked (exactly 2) two_bytes number_of_two (λ body b fits. number_bytes_two body b (eqb-true (length body) 2 fits))
 
 -- ---- a body of axis numbers
 level : (ns : List ℕ) (i : ℕ) → rises ns i ≡ false → (0 < i) × (get_or ns i 0 ≤ get_or ns (i - 1) 0)
@@ -68,15 +69,15 @@ unfolding rises
 not_rising ns i h k = rw (ne_eqb i 0 (omega arith), le-ltb (get_or ns (i - 1) 0) (get_or ns i 0) k)
 
 module _ (range : Range) (body : List ℕ) (place : ℕ) where
-  wrong_number : (t : Told) (i : ℕ) → t.place ≡ i → Wrong range (pairs body) i t
-      → ((InRange range (get_or (pairs body) i 0) → ⊥) × (refusal t.number (place + 2 * t.place) ≡ refusal 4 (place + 2 * i)))
-      ⊎ (InRange range (get_or (pairs body) i 0) × (0 < i) × (get_or (pairs body) i 0 ≤ get_or (pairs body) (i - 1) 0) × (refusal t.number (place + 2 * t.place) ≡ refusal 5 (place + 2 * i)))
-  wrong_number t i e (inl w) = inl (not_in_range range (get_or (pairs body) i 0) w.1, rw (e, w.0))
-  wrong_number t i e (inr w) =
+  wrong_number : (t : Told) (i : ℕ) → Wrong range (pairs body) i t
+      → ((InRange range (get_or (pairs body) i 0) → ⊥) × (at_place (place + 2 * t.place) t ≡ refusal 4 (place + 2 * i)))
+      ⊎ (InRange range (get_or (pairs body) i 0) × (0 < i) × (get_or (pairs body) i 0 ≤ get_or (pairs body) (i - 1) 0) × (at_place (place + 2 * t.place) t ≡ refusal 5 (place + 2 * i)))
+  wrong_number t i (inl w) = inl (not_in_range range (get_or (pairs body) i 0) w.1, rw w.0)
+  wrong_number t i (inr w) =
       let l = level (pairs body) i w.2 in
-      inr (in_range range (get_or (pairs body) i 0) w.1, l.0, l.1, rw (e, w.0))
+      inr (in_range range (get_or (pairs body) i 0) w.1, l.0, l.1, rw w.0)
 
-  axis_fault : (t : Told) → axis_numbers range (pairs body) (length (pairs body)) ≡ refused t → AxisFault range body place (refusal t.number (place + 2 * t.place))
+  axis_fault : (t : Told) → axis_numbers range (pairs body) (length (pairs body)) ≡ refused t → AxisFault range body place (at_place (place + 2 * t.place) t)
   axis_fault t e =
       let ns = pairs body in
       let f = numbers_refused range ns (length ns) t e in
@@ -85,7 +86,7 @@ module _ (range : Range) (body : List ℕ) (place : ℕ) where
         below = f.below;
         ranges = λ i l. in_range range (get_or ns i 0) (and_fst (within range (get_or ns i 0)) (rises ns i) (f.right i l));
         rising = λ i l. rises_next ns i (and_snd (within range (get_or ns (i + 1) 0)) (rises ns (i + 1)) (f.right (i + 1) l));
-        wrong = wrong_number t f.index f.place f.wrong;
+        wrong = wrong_number t f.index f.wrong;
       }
 
   -- the number at an index decides, where those before are right
@@ -121,7 +122,7 @@ module _ (range : Range) (most : ℕ) where
           let bounds = numbers_bounds 2 most (length body) fits in
           let count = length_pairs body in
           right (pairs body) (sym (number_bytes_pairs body b bounds.0), axis_accepted range most (pairs body) (length (pairs body)) (omega (arith, bounds.1, count)) (omega (arith, bounds.2, count)) e)
-      go (refused t) e = wrong (refusal t.number (place + 2 * t.place)) (axis_fault range body place t e)
+      go (refused t) e = wrong (at_place (place + 2 * t.place) t) (axis_fault range body place t e)
 
   pub axis_checked : Checked (numbers 2 most) (axis range) number_bytes (λ ns place. AxisRules range most ns (length ns)) (AxisFault range)
   axis_checked = record { decided = axis_decided; accepts = axis_accepts; refuses = axis_refused range }
@@ -167,18 +168,18 @@ sensor_accepts : (s : Sensor) (place : ℕ) → SensorRules s → sensor (number
 unfolding sensor
 sensor_accepts s place r = rw (pairs_number_bytes (sensor_numbers s), sensor_accepted s r)
 
-sensor_fault : (body : List ℕ) (place : ℕ) (t : Told) → sensor_check (pairs body) ≡ refused t → SensorFault body place (refusal 4 (place + 2 * t.place))
+sensor_fault : (body : List ℕ) (place : ℕ) (t : Told) → sensor_check (pairs body) ≡ refused t → SensorFault body place (at_place (place + 2 * t.place) t)
 unfolding sensor_check sensor_number_check
 sensor_fault body place t e =
     let ns = pairs body in
     let s = first_found (sensor_number_check ns) 0 9 t e in
-    let w = require_refused (within (get_or sensor_ranges s.at (0 to 0)) (get_or ns s.at 0)) 4 s.at t s.here in
+    let w = require_refused (within (get_or sensor_ranges s.at (0 to 0)) (get_or ns s.at 0)) (refusal_with_index 32 s.at s.at) t s.here in
     record {
       index = s.at;
       below = s.below;
-      ranges = λ i l. in_range _ (get_or ns i 0) (require_accepted _ 4 i (s.passed i zero-le l));
+      ranges = λ i l. in_range _ (get_or ns i 0) (require_accepted _ _ (s.passed i zero-le l));
       outside = not_in_range _ (get_or ns s.at 0) w.0;
-      told = ap (λ (u : Told). refusal 4 (place + 2 * u.place)) w.1;
+      told = ap (λ (u : Told). at_place (place + 2 * u.place) u) w.1;
     }
 
 sensor_refused : (body : List ℕ) (place : ℕ) (t : Told) → SensorFault body place t → sensor body place ≡ refused t
@@ -186,8 +187,8 @@ unfolding sensor sensor_check sensor_number_check
 sensor_refused body place t f =
     let ns = pairs body in
     let i = f.index in
-    let stops : first_refusal (sensor_number_check ns) 0 9 ≡ refuse 4 i =
-    first_refused (sensor_number_check ns) 9 i (refusal 4 i) f.below (λ k l. rw (within_range _ (get_or ns k 0) (f.ranges k l)))
+    let stops : first_refusal (sensor_number_check ns) 0 9 ≡ refused (refusal_with_index 32 i i) =
+    first_refused (sensor_number_check ns) 9 i (refusal_with_index 32 i i) f.below (λ k l. rw (within_range _ (get_or ns k 0) (f.ranges k l)))
     (rw (not_within _ (get_or ns i 0) f.outside))
     in
     told_as _ t _ (rw stops) f.told
@@ -202,7 +203,7 @@ sensor_decided body place b fits = go (sensor_check (pairs body)) refl
         let long = eqb-true (length body) 18 fits in
         let nine = nine_numbers (pairs body) (omega (arith, length_pairs body)) in
         right (sensor_of (pairs body)) (rw nine (sym (number_bytes_pairs body b (omega arith))), sensor_rules (pairs body) e)
-    go (refused t) e = wrong (refusal 4 (place + 2 * t.place)) (sensor_fault body place t e)
+    go (refused t) e = wrong (at_place (place + 2 * t.place) t) (sensor_fault body place t e)
 
 pub sensor_checked : Checked (exactly 18) sensor (λ s. number_bytes (sensor_numbers s)) (λ s place. SensorRules s) SensorFault
 sensor_checked = record { decided = sensor_decided; accepts = sensor_accepts; refuses = sensor_refused }

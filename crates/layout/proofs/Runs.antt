@@ -8,11 +8,11 @@ use native.Mathlib.Omega.{arith}
 use borrow.Author.Tests.{lt-leb, eqb-true, ne_eqb}
 use lib.Dec.{leb}
 use lib.ListN.{length}
-use Rattle.refusal.specs.Outcome.{Told, Outcome, accepted, refused, require, ◌>>=◌}
+use Rattle.refusal.specs.Outcome.{refusal, Told, Outcome, accepted, refused, require, ◌>>=◌}
 use Rattle.grid.specs.Axis.{◌to◌, first_step}
 use Rattle.grid.specs.Rules.{InRange}
 use Rattle.fields.specs.Bytes.{between}
-use Rattle.fields.specs.Field.{Head, Field, head, field, exactly, numbers, number, axis}
+use Rattle.fields.specs.Field.{Head, Field, head, field, exactly, numbers, number, ratio_refusal, axis}
 use Rattle.fields.specs.Sensor.{sensor}
 use Rattle.sensor.specs.Sensor.{sensor_numbers}
 use Rattle.component.specs.Component.{Component, Kind, measured, Run, AxesNumbers, Rows, rows, output_tags, sensor_tags, rows_tag, row_length, axle_fields, axes_fields, sensor_fields, measured_fields, kind_fields, component}
@@ -80,18 +80,18 @@ tags_count (suc (suc (suc (suc n)))) h k = absurd (omega arith)
 module _ (bytes : List ℕ) where
   -- ---- tags 1 to 3
   module _ (kind : ℕ) (there : Stands bytes 0 1 (exactly 1) (kind ∷ [])) (range : InRange (1 to 3) kind) where
-    kind_read : field bytes 0 1 (exactly 1) (number (1 to 3)) ≡ accepted (record { value = kind; start = 3; next = 4 })
-    kind_read = field_accepted (one_byte_checked (1 to 3)) bytes 0 1 kind 4 refl there range
+    kind_read : field bytes 0 1 (exactly 1) (number (1 to 3) (refusal 4)) ≡ accepted (record { value = kind; start = 3; next = 4 })
+    kind_read = field_accepted (one_byte_checked (1 to 3) (refusal 4)) bytes 0 1 kind 4 refl there range
 
   module _ (line : ℕ) (there : Stands bytes 4 2 (exactly 1) (line ∷ [])) (range : InRange (1 to 5) line) where
-    line_read : field bytes 4 2 (exactly 1) (number (1 to 5)) ≡ accepted (record { value = line; start = 7; next = 8 })
-    line_read = field_accepted (one_byte_checked (1 to 5)) bytes 4 2 line 8 refl there range
+    line_read : field bytes 4 2 (exactly 1) (number (1 to 5) (refusal 4)) ≡ accepted (record { value = line; start = 7; next = 8 })
+    line_read = field_accepted (one_byte_checked (1 to 5) (refusal 4)) bytes 4 2 line 8 refl there range
 
   axle_read : (kind line ratio : ℕ) → AxleStands bytes kind line ratio
       → axle_fields bytes 0 ≡ accepted (record { value = record { kind = kind; line = line; ratio = ratio }; next = 13 })
   unfolding axle_fields
   axle_read kind line ratio s =
-      rw (kind_read kind s.kind_there s.kind_range, line_read line s.line_there s.line_range, field_accepted (two_bytes_checked (1000 to 20000)) bytes 8 3 ratio 13 refl s.ratio_there s.ratio_range)
+      rw (kind_read kind s.kind_there s.kind_range, line_read line s.line_there s.line_range, field_accepted (two_bytes_checked (1000 to 20000) ratio_refusal) bytes 8 3 ratio 13 refl s.ratio_there s.ratio_range)
 
   -- ---- tags 4 and 5
   speeds_read : (speeds : List ℕ) (m : ℕ) → length speeds ≡ m → SpeedsStand bytes speeds
@@ -178,10 +178,10 @@ module _ (bytes : List ℕ) where
   -- the first field that is wrong decides
   pub fault_refused : (t : Told) → Fault bytes t → component bytes ≡ refused t
   unfolding component axle_fields kind_fields
-  fault_refused t (in_kind f) = rw (field_refused (one_byte_checked (1 to 3)) bytes 0 1 t f)
-  fault_refused t (in_line kind k r f) = rw (kind_read kind k r, field_refused (one_byte_checked (1 to 5)) bytes 4 2 t f)
+  fault_refused t (in_kind f) = rw (field_refused (one_byte_checked (1 to 3) (refusal 4)) bytes 0 1 t f)
+  fault_refused t (in_line kind k r f) = rw (kind_read kind k r, field_refused (one_byte_checked (1 to 5) (refusal 4)) bytes 4 2 t f)
   fault_refused t (in_ratio kind line k r l q f) =
-      rw (kind_read kind k r, line_read line l q, field_refused (two_bytes_checked (1000 to 20000)) bytes 8 3 t f)
+      rw (kind_read kind k r, line_read line l q, field_refused (two_bytes_checked (1000 to 20000) ratio_refusal) bytes 8 3 t f)
   fault_refused t (in_speeds kind line ratio a f) =
       rw (axle_read kind line ratio a, axes_tested_lem bytes 13, field_refused (axis_checked (1 to 3000) 32) bytes 13 4 t f)
   fault_refused t (in_torques kind line ratio speeds a s f) =
@@ -200,11 +200,11 @@ module _ (bytes : List ℕ) where
   -- ---- no third case
   module _ (b : AreBytes bytes) where
     pub axes_decided : Decided (Fault bytes) (λ (kind : ℕ). (m : ℕ) × (n : ℕ) × AxesStand bytes kind m n)
-    axes_decided = elim (field_decided (one_byte_checked (1 to 3)) bytes 0 1 b) [
+    axes_decided = elim (field_decided (one_byte_checked (1 to 3) (refusal 4)) bytes 0 1 b) [
       | wrong t f ↦ wrong t (in_kind f)
-      | right kind k ↦ elim (field_decided (one_byte_checked (1 to 5)) bytes 4 2 b) [
+      | right kind k ↦ elim (field_decided (one_byte_checked (1 to 5) (refusal 4)) bytes 4 2 b) [
         | wrong t f ↦ wrong t (in_line kind k.0 k.1 f)
-        | right line l ↦ elim (field_decided (two_bytes_checked (1000 to 20000)) bytes 8 3 b) [
+        | right line l ↦ elim (field_decided (two_bytes_checked (1000 to 20000) ratio_refusal) bytes 8 3 b) [
           | wrong t f ↦ wrong t (in_ratio kind line k.0 k.1 l.0 l.1 f)
           | right ratio r ↦
               let axle : AxleStands bytes kind line ratio = record { kind_there = k.0; kind_range = k.1; line_there = l.0; line_range = l.1; ratio_there = r.0; ratio_range = r.1 } in

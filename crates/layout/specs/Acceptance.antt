@@ -3,7 +3,7 @@ use Rattle.std.specs.Prelude.{ℕ, ◌+◌, ◌*◌, ◌≤◌, ◌<◌, ◌≡�
 use Rattle.refusal.specs.Outcome.{refusal, Told, accepted, refused}
 use Rattle.grid.specs.Axis.{◌to◌}
 use Rattle.grid.specs.Rules.{InRange, AxisRules, FirstStep}
-use Rattle.fields.specs.Field.{exactly, numbers}
+use Rattle.fields.specs.Field.{exactly, numbers, ratio_refusal}
 use Rattle.component.specs.Component.{Component, sensor_tags, rows_tag, row_length, component}
 use Rattle.sensor.specs.declared.Sensor.{Sensor}
 use Rattle.layout.specs.Layout.{two_bytes, number_bytes, layout}
@@ -68,12 +68,12 @@ abbrev pub rows_end : (kind m n : ℕ) → ℕ
 rows_end kind m n = rows_head kind m n + 3 + row_length kind * (m * n)
 
 pub data Fault (bytes : List ℕ) (t : Told) : Type 0 where
-  in_kind : FieldFault bytes 0 1 (exactly 1) (NumberFault (1 to 3)) t → Fault bytes t
+  in_kind : FieldFault bytes 0 1 (exactly 1) (NumberFault (1 to 3) (refusal 4)) t → Fault bytes t
   in_line : (kind : ℕ) → Stands bytes 0 1 (exactly 1) (kind ∷ []) → InRange (1 to 3) kind
-      → FieldFault bytes 4 2 (exactly 1) (NumberFault (1 to 5)) t → Fault bytes t
+      → FieldFault bytes 4 2 (exactly 1) (NumberFault (1 to 5) (refusal 4)) t → Fault bytes t
   in_ratio : (kind line : ℕ) → Stands bytes 0 1 (exactly 1) (kind ∷ []) → InRange (1 to 3) kind
       → Stands bytes 4 2 (exactly 1) (line ∷ []) → InRange (1 to 5) line
-      → FieldFault bytes 8 3 (exactly 2) (NumberFault (1000 to 20000)) t → Fault bytes t
+      → FieldFault bytes 8 3 (exactly 2) (NumberFault (1000 to 20000) ratio_refusal) t → Fault bytes t
   in_speeds : (kind line ratio : ℕ) → AxleStands bytes kind line ratio
       → FieldFault bytes 13 4 (numbers 2 32) (AxisFault (1 to 3000)) t → Fault bytes t
   in_torques : (kind line ratio : ℕ) (speeds : List ℕ) → AxleStands bytes kind line ratio → SpeedsStand bytes speeds

@@ -1,6 +1,6 @@
--- Document 01, "Refusals", rows 1 to 6 and 12: the condition of each row, said of the bytes at its place where everything before is right.
+-- Document 01, "Refusals", rows 1 to 6 and 12, and document 02, C-14 (31, 32): the condition of each row, said of the bytes at its place where everything before is right.
 use Rattle.std.specs.Prelude.{ℕ, ◌+◌, ◌-◌, ◌*◌, ◌≤◌, ◌<◌, ◌≡◌, Bool, true, false, List, ◌⊎◌, length, get_or}
-use Rattle.refusal.specs.Outcome.{Told, refusal}
+use Rattle.refusal.specs.Outcome.{Told, refusal, refusal_with_index}
 use Rattle.grid.specs.Axis.{◌to◌}
 use Rattle.grid.specs.Rules.{InRange, AxisRules}
 use Rattle.grid.specs.declared.Range.{Range}
@@ -38,12 +38,12 @@ pub data FieldFault (bytes : List ℕ) (at tag : ℕ) (allowed : ℕ → Bool) (
   in_head : HeadFault bytes at tag allowed t → FieldFault bytes at tag allowed BodyFault t
   in_body : (body : List ℕ) → Stands bytes at tag allowed body → BodyFault body (at + 3) t → FieldFault bytes at tag allowed BodyFault t
 
--- ---- rows 4 to 6, in a body whose first byte is at a place
+-- ---- rows 4 to 6, 31 and 32, in a body whose first byte is at a place
 
--- 4: the body is one number, which is not in its range
-pub record NumberFault (range : Range) (body : List ℕ) (place : ℕ) (t : Told) : Type 0 where
+-- the body is one number, which is not in its range; it is refused as such a number is at its place
+pub record NumberFault (range : Range) (refused_at : (place : ℕ) → Told) (body : List ℕ) (place : ℕ) (t : Told) : Type 0 where
   pub outside : InRange range (number_of body) → ⊥
-  pub told : t ≡ refusal 4 place
+  pub told : t ≡ refused_at place
 
 -- the first wrong number of an axis: 4 where it is not in its range, 5 where it is and does not rise
 pub record AxisFault (range : Range) (body : List ℕ) (place : ℕ) (t : Told) : Type 0 where
@@ -60,13 +60,13 @@ pub data TorqueFault (body : List ℕ) (place : ℕ) (t : Told) : Type 0 where
   numbers_wrong : AxisFault (0 to 50000) body place t → TorqueFault body place t
   step_wrong : AxisRules (0 to 50000) 64 (pairs body) (length (pairs body)) → get_or (pairs body) 1 0 - get_or (pairs body) 0 0 < get_or (pairs body) 0 0 → t ≡ refusal 6 place → TorqueFault body place t
 
--- the first wrong number of a sensor
+-- 32: the first wrong number of a sensor, and which of them it is
 pub record SensorFault (body : List ℕ) (place : ℕ) (t : Told) : Type 0 where
   pub index : ℕ
   pub below : index < 9
   pub ranges : (i : ℕ) → i < index → InRange (get_or sensor_ranges i (0 to 0)) (get_or (pairs body) i 0)
   pub outside : InRange (get_or sensor_ranges index (0 to 0)) (get_or (pairs body) index 0) → ⊥
-  pub told : t ≡ refusal 4 (place + 2 * index)
+  pub told : t ≡ refusal_with_index 32 (place + 2 * index) index
 
 -- the rows are not looked at by the reader
 abbrev pub NoFault : List ℕ → ℕ → Told → Type 0

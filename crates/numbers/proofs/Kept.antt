@@ -43,7 +43,7 @@ axle_right kind line ratio e =
     record {
       kind_range = in_range (1 to 3) kind k.0;
       line_range = in_range (1 to 5) line l.0;
-      ratio_range = in_range (1000 to 20000) ratio (require_accepted _ 4 0 l.1);
+      ratio_range = in_range (1000 to 20000) ratio (require_accepted _ _ l.1);
     }
 
 axle_accepted : (kind line ratio : ℕ) → AxleRules kind line ratio → axle_check kind line ratio ≡ accepted tt
@@ -96,7 +96,7 @@ axes_right grid e =
     record {
       speeds = axis_right 32 (1 to 3000) _ _ s.1;
       torques = axis_right 64 (0 to 50000) _ _ t.1;
-      step = leb-true _ _ (require_accepted _ 6 0 t.2);
+      step = leb-true _ _ (require_accepted _ _ t.2);
     }
 
 axes_accepted : (grid : Grid) → AxesKept grid → axes_check grid ≡ accepted tt
@@ -183,7 +183,7 @@ module _ (g : Numbers) (torques : List ℕ) where
       let s = then_accepted (sensors_check (g.input ∷ outputs_of g.kind g.output g.right)) _ tt (rw (ne_eqb g.kind 1 (omega arith)) at e) in
       record {
         sensors = sensors_right _ s.1;
-        count = rw (em, en) (eqb-true (length torques) _ (require_accepted _ 3 0 s.2));
+        count = rw (em, en) (eqb-true (length torques) _ (require_accepted _ _ s.2));
       }
 
   pub numbers_right : FitFourBytes torques → numbers_check g (length torques) ≡ accepted tt → NumbersRules g torques

@@ -1,10 +1,11 @@
--- Document 02, C-12: the reader's tests 3 to 6, in the reader's order and "with place 0", of numbers that are handed over.
+-- Document 02, C-12 and C-14: the reader's tests 3 to 6, 31 and 32, in the reader's order and "with place 0", of numbers that are handed over.
 use Rattle.std.specs.Prelude.{ℕ, ◌*◌, List, [], ◌∷◌, eqb, take, if◌then◌else◌}
-use Rattle.refusal.specs.Outcome.{Outcome, accepted, ◌>>=◌, require, without_place}
+use Rattle.refusal.specs.Outcome.{Outcome, accepted, ◌>>=◌, require_told, require, without_place}
 use Rattle.grid.specs.Axis.{◌to◌, within, axis_numbers, first_step}
 use Rattle.grid.specs.Map.{counted_numbers}
 use Rattle.grid.specs.declared.Range.{Range}
 use Rattle.grid.specs.declared.Grid.{Grid}
+use Rattle.fields.specs.Field.{ratio_refusal}
 use Rattle.sensor.specs.Sensor.{sensor_check, sensor_numbers}
 use Rattle.sensor.specs.declared.Sensor.{Sensor}
 use Rattle.component.specs.Answers.{outputs_of}
@@ -15,7 +16,7 @@ unfoldable pub axle_check : (kind line ratio : ℕ) → Outcome (Unit {0})
 axle_check kind line ratio = do
   _ ← require (within (1 to 3) kind) 4 0
   _ ← require (within (1 to 5) line) 4 0
-  require (within (1000 to 20000) ratio) 4 0
+  require_told (within (1000 to 20000) ratio) (ratio_refusal 0)
 
 -- an axis: 2 to most numbers, then each of them
 unfoldable pub axis_check : (most : ℕ) → Range → (numbers : List ℕ) (count : ℕ) → Outcome (Unit {0})

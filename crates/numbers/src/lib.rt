@@ -43,7 +43,7 @@ fn axle_check(numbers: &Numbers) -> Result<Kind, Refusal>
         return Err(Refusal::OutOfRange(0));
     }
     if !component::RATIOS.contains(numbers.ratio) {
-        return Err(Refusal::OutOfRange(0));
+        return Err(Refusal::RatioOutOfRange(0));
     }
     Ok(kind)
 }
@@ -74,7 +74,7 @@ fn sensor_check(sensor: Sensor) -> Result<(), Refusal>
 {
     match sensor::sensor_fault(&sensor.numbers()) {
         None => Ok(()),
-        Some(_) => Err(Refusal::OutOfRange(0)),
+        Some(index) => Err(Refusal::SensorOutOfRange { place: 0, index }),
     }
 }
 

@@ -3,10 +3,10 @@ use Prim.Native.Nat.{◌≤◌}
 use native.Mathlib.Omega.{arith}
 use Rattle.refusal.specs.Table.{number}
 use Rattle.refusal.specs.declared.Refusal.{Refusal}
-use Rattle.refusal.specs.declared.Refusal.TheVariants.{Incomplete, WrongTag, WrongLength, OutOfRange, NotRising, FirstTorqueAboveStep, AboveNominal, OffAxisTorque, NegativeLoss, EntryTooLarge, TooShort, TrailingBytes, SpeedOutside, TorqueAbove, NotAMap, FileTooShort}
+use Rattle.refusal.specs.declared.Refusal.TheVariants.{Incomplete, WrongTag, WrongLength, OutOfRange, NotRising, FirstTorqueAboveStep, AboveNominal, OffAxisTorque, NegativeLoss, EntryTooLarge, TooShort, TrailingBytes, SpeedOutside, TorqueAbove, NotAMap, FileTooShort, RatioOutOfRange, SensorOutOfRange}
 
--- each is from 1 to 30
-pub number_between : (x : Refusal) → (1 ≤ number x) × (number x ≤ 30)
+-- each is from 1 to 32
+pub number_between : (x : Refusal) → (1 ≤ number x) × (number x ≤ 32)
 number_between (Incomplete p) = (omega arith, omega arith)
 number_between (WrongTag p) = (omega arith, omega arith)
 number_between (WrongLength p) = (omega arith, omega arith)
@@ -23,3 +23,5 @@ number_between SpeedOutside = (omega arith, omega arith)
 number_between TorqueAbove = (omega arith, omega arith)
 number_between NotAMap = (omega arith, omega arith)
 number_between (FileTooShort p) = (omega arith, omega arith)
+number_between (RatioOutOfRange p) = (omega arith, omega arith)
+number_between (SensorOutOfRange p i) = (omega arith, omega arith)

@@ -4,7 +4,7 @@ use mathlib.Core.Path.{◌≡◌, refl, sym, ap}
 use mathlib.Core.Bool.{Bool, true, false}
 use mathlib.Core.Logic.{◌⊎◌, inl, inr}
 use native.Mathlib.Omega.{arith}
-use Rattle.refusal.specs.Outcome.{Told, refusal, Outcome, accepted, refused, ◌>>=◌, require, placed}
+use Rattle.refusal.specs.Outcome.{Told, refusal, at_place, Outcome, accepted, refused, ◌>>=◌, require_told, require, placed}
 
 -- a refusal is no value
 pub never : {A P : Type 0} (t : Told) (a : A) → ◌≡◌ {A = Outcome A} (refused t) (accepted a) → P
@@ -36,16 +36,16 @@ pub test_refused : {B : Type 0} (test : Bool) (number place : ℕ) (next : Outco
 test_refused true number place next t e = inr (refl, e)
 test_refused false number place next t e = inl (refl, sym (same_refusal (refusal number place) t e))
 
--- and where the test is the last step
-pub require_accepted : (test : Bool) (number place : ℕ) → require test number place ≡ accepted tt → test ≡ true
-require_accepted true number place e = refl
-require_accepted false number place e = never (refusal number place) tt e
+-- and where the test is the last step, whatever it tells
+pub require_accepted : (test : Bool) (t : Told) → require_told test t ≡ accepted tt → test ≡ true
+require_accepted true t e = refl
+require_accepted false t e = never t tt e
 
-pub require_refused : (test : Bool) (number place : ℕ) (t : Told) → require test number place ≡ refused t → (test ≡ false) × (t ≡ refusal number place)
-require_refused true number place t e = never t tt (sym e)
-require_refused false number place t e = (refl, sym (same_refusal (refusal number place) t e))
+pub require_refused : (test : Bool) (t u : Told) → require_told test t ≡ refused u → (test ≡ false) × (u ≡ t)
+require_refused true t u e = never u tt (sym e)
+require_refused false t u e = (refl, sym (same_refusal t u e))
 
--- another place: accepted stays so, and a refusal keeps its number
+-- another place: accepted stays so
 pub placed_accepted : {A : Type 0} (at : ℕ → ℕ) (o : Outcome A) (a : A) → placed at o ≡ accepted a → o ≡ accepted a
 placed_accepted at (accepted b) a e = e
-placed_accepted at (refused t) a e = never (refusal t.number (at t.place)) a e
+placed_accepted at (refused t) a e = never (at_place (at t.place) t) a e

@@ -1,14 +1,23 @@
 -- What comes of a call in document 01's terms: a value, or a refusal with its number and place. Steps are joined by `do`, so that the order of tests is the order of lines.
-use Rattle.std.specs.Prelude.{ℕ, zero, suc, Bool, if◌then◌else◌}
+use Rattle.std.specs.Prelude.{ℕ, zero, suc, Bool, if◌then◌else◌, Option, Some, None}
 
--- a refusal as document 01 tells it: "Returned" and "Place given"
+-- a refusal as document 01 tells it, "Returned" and "Place given"; and where document 02, C-14, wants it, "which number of the field it was, from 0"
 pub record Told : Type 0 where
   pub number : ℕ
   pub place : ℕ
+  pub index : Option ℕ
 
--- the refusal of this number and place
+-- the refusal of this number and place, which is of no number of a field
 abbrev pub refusal : (number place : ℕ) → Told
-refusal number place = record { number = number; place = place }
+refusal number place = record { number = number; place = place; index = None }
+
+-- and one that is of the number with this index in its field
+abbrev pub refusal_with_index : (number place index : ℕ) → Told
+refusal_with_index number place index = record { number = number; place = place; index = Some index }
+
+-- the same refusal with another place
+abbrev pub at_place : (place : ℕ) → Told → Told
+at_place place t = record { number = t.number; place = place; index = t.index }
 
 pub data Outcome (A : Type 0) : Type 0 where
   accepted : A → Outcome A
@@ -25,8 +34,12 @@ abbrev pub ◌>>=◌ : {A B : Type 0} → Outcome A → (A → Outcome B) → Ou
 ◌>>=◌ (refused t) next = refused t
 
 -- the test must hold: where it does not, this refusal
+abbrev pub require_told : Bool → Told → Outcome (Unit {0})
+require_told test t = if test then accepted tt else refused t
+
+-- or the refusal of this number and place
 abbrev pub require : Bool → (number place : ℕ) → Outcome (Unit {0})
-require test number place = if test then accepted tt else refuse number place
+require test number place = require_told test (refusal number place)
 
 -- the tests at i, i + 1 and so on, count of them: the first refusal among them
 unfoldable pub first_refusal : (ℕ → Outcome (Unit {0})) → (i count : ℕ) → Outcome (Unit {0})
@@ -38,7 +51,7 @@ first_refusal test i (suc count) = do
 -- the same outcome with another place
 abbrev pub placed : {A : Type 0} → (ℕ → ℕ) → Outcome A → Outcome A
 placed at (accepted a) = accepted a
-placed at (refused t) = refused (refusal t.number (at t.place))
+placed at (refused t) = refused (at_place (at t.place) t)
 
 -- and with place 0
 abbrev pub without_place : {A : Type 0} → Outcome A → Outcome A

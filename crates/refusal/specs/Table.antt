@@ -1,8 +1,8 @@
--- Document 01, "Refusals", and document 02, C-12 (30): the number and the place of each case. Where no place is given it is 0.
-use Rattle.std.specs.Prelude.{ℕ, Result, Ok, Err}
-use Rattle.refusal.specs.Outcome.{Told, refusal, Outcome, accepted, refused}
+-- Document 01, "Refusals", and document 02, C-12 (30) and C-14 (31, 32): the number and the place of each case, and which number of its field it was. Where no place is given it is 0.
+use Rattle.std.specs.Prelude.{ℕ, Option, Some, None, Result, Ok, Err}
+use Rattle.refusal.specs.Outcome.{Told, Outcome, accepted, refused}
 use Rattle.refusal.specs.declared.Refusal.{Refusal}
-use Rattle.refusal.specs.declared.Refusal.TheVariants.{Incomplete, WrongTag, WrongLength, OutOfRange, NotRising, FirstTorqueAboveStep, AboveNominal, OffAxisTorque, NegativeLoss, EntryTooLarge, TooShort, TrailingBytes, SpeedOutside, TorqueAbove, NotAMap, FileTooShort}
+use Rattle.refusal.specs.declared.Refusal.TheVariants.{Incomplete, WrongTag, WrongLength, OutOfRange, NotRising, FirstTorqueAboveStep, AboveNominal, OffAxisTorque, NegativeLoss, EntryTooLarge, TooShort, TrailingBytes, SpeedOutside, TorqueAbove, NotAMap, FileTooShort, RatioOutOfRange, SensorOutOfRange}
 
 abbrev pub number : Refusal → ℕ
 number (Incomplete p) = 1
@@ -21,6 +21,8 @@ number SpeedOutside = 20
 number TorqueAbove = 21
 number NotAMap = 22
 number (FileTooShort p) = 30
+number (RatioOutOfRange p) = 31
+number (SensorOutOfRange p i) = 32
 
 abbrev pub place : Refusal → ℕ
 place (Incomplete p) = p
@@ -39,9 +41,17 @@ place SpeedOutside = 0
 place TorqueAbove = 0
 place NotAMap = 0
 place (FileTooShort p) = p
+place (RatioOutOfRange p) = p
+place (SensorOutOfRange p i) = p
+
+-- "which number of the field it was, from 0": for these two, and for no other
+abbrev pub index : Refusal → Option ℕ
+index (RatioOutOfRange p) = Some 0
+index (SensorOutOfRange p i) = Some i
+index _ = None
 
 abbrev pub told : Refusal → Told
-told r = refusal (number r) (place r)
+told r = record { number = number r; place = place r; index = index r }
 
 -- what an answer says in document 01's terms
 abbrev pub outcome_of : {A : Type 0} → Result A Refusal → Outcome A

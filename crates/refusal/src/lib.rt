@@ -2,12 +2,13 @@
 #![tactic(auto)]
 
 ghost use Rattle.std.specs.Prelude.{◌≡◌};
-ghost use Rattle.refusal.specs.Table.{number, place};
+ghost use Rattle.refusal.specs.Outcome.{at_place};
+ghost use Rattle.refusal.specs.Table.{number, place, index, told};
 
 use std::fmt;
 
 // Each case holds the place that is given with it; those without one have place 0. (A struct of a kind and a place would let
-// these three have another.)
+// these three have another.) Those of a ratio and of a sensor also give which number of the field it was, from 0.
 #[derive(Clone, Copy)]
 pub enum Refusal {
     // 1: a head or a body that the end of the data cuts off. The head's offset.
@@ -16,7 +17,7 @@ pub enum Refusal {
     WrongTag(usize),
     // 3: a length that the field cannot have. The head's offset.
     WrongLength(usize),
-    // 4: a number that is not in its range. The number's offset.
+    // 4: a kind, a line or an axis number that is not in its range. The number's offset.
     OutOfRange(usize),
     // 5: an axis number that does not rise. The number's offset.
     NotRising(usize),
@@ -42,6 +43,10 @@ pub enum Refusal {
     NotAMap,
     // 30: a lent buffer shorter than the file. The length needed.
     FileTooShort(usize),
+    // 31: a ratio that is not in its range. The number's offset; it is number 0, the only one of its field.
+    RatioOutOfRange(usize),
+    // 32: a number of a sensor that is not in its range. The number's offset, and which of the nine it was.
+    SensorOutOfRange { place: usize, index: usize },
 }
 
 impl Refusal {
@@ -66,6 +71,8 @@ impl Refusal {
             Refusal::TorqueAbove => 21,
             Refusal::NotAMap => 22,
             Refusal::FileTooShort(_) => 30,
+            Refusal::RatioOutOfRange(_) => 31,
+            Refusal::SensorOutOfRange { .. } => 32,
         }
     }
 
@@ -86,16 +93,29 @@ impl Refusal {
             | Refusal::EntryTooLarge(p)
             | Refusal::TooShort(p)
             | Refusal::TrailingBytes(p)
-            | Refusal::FileTooShort(p) => p,
+            | Refusal::FileTooShort(p)
+            | Refusal::RatioOutOfRange(p)
+            | Refusal::SensorOutOfRange { place: p, .. } => p,
             Refusal::SpeedOutside => 0,
             Refusal::TorqueAbove => 0,
             Refusal::NotAMap => 0,
         }
     }
 
+    // Which number of its field it was, from 0, where that is told.
+    pub fn index(self) -> Option<usize>
+        ensures { result ≡ index self }
+    {
+        match self {
+            Refusal::RatioOutOfRange(_) => Some(0),
+            Refusal::SensorOutOfRange { index, .. } => Some(index),
+            _ => None,
+        }
+    }
+
     // The same refusal with place 0.
     pub fn without_place(self) -> Refusal
-        ensures { (number result ≡ number self) × (place result ≡ 0) }
+        ensures { told result ≡ at_place 0 (told self) }
     {
         match self {
             Refusal::Incomplete(_) => Refusal::Incomplete(0),
@@ -114,6 +134,10 @@ impl Refusal {
             Refusal::TorqueAbove => Refusal::TorqueAbove,
             Refusal::NotAMap => Refusal::NotAMap,
             Refusal::FileTooShort(_) => Refusal::FileTooShort(0),
+            Refusal::RatioOutOfRange(_) => Refusal::RatioOutOfRange(0),
+            Refusal::SensorOutOfRange { index, .. } => {
+                Refusal::SensorOutOfRange { place: 0, index }
+            }
         }
     }
 }

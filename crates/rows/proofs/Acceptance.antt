@@ -70,7 +70,7 @@ module _ (torque : ℕ) (row : Row) where
       let b = then_accepted (outputs_check row.outputs 4) _ tt a.1 in
       let c = test_accepted (near_axis torque (output row)) 8 4 _ tt b.2 in
       let d = test_accepted loss_test 9 0 _ tt c.1 in
-      let f = require_accepted (leb (measured_entry row) 10000000) 10 0 d.1 in
+      let f = require_accepted (leb (measured_entry row) 10000000) _ d.1 in
       let n = near_both c.0 in
       record {
         input = leb-true _ _ a.0;
@@ -105,7 +105,7 @@ module _ (torque : ℕ) (row : Row) where
       ⊎_elim
       (λ d. negative i o n.0 n.1 (not-false _ d.0) d.1)
       (λ d.
-      let f = require_refused (leb (measured_entry row) 10000000) 10 place told d.1 in
+      let f = require_refused (leb (measured_entry row) 10000000) _ told d.1 in
       too_large i o n.0 n.1 (not-true _ d.0) (leb-false _ _ f.0) f.1)
       (test_refused loss_test 9 place _ told c.1))
       (test_refused (near_axis torque (output row)) 8 (place + 4) _ told b.2))

@@ -13,7 +13,7 @@ use Rattle.std.specs.List.{position, position_or_len, zip}
 use Rattle.std.proofs.lemmas.Bool.{lt-ltb, le-ltb, not-true, not-false}
 use Rattle.std.proofs.lemmas.List.Sums.{fails_before_first, passes_at_first}
 use Rattle.std.proofs.lemmas.Slice.Zip.{length-zip, get_or-zip}
-use Rattle.refusal.specs.Outcome.{Told, accepted, refuse, first_refusal}
+use Rattle.refusal.specs.Outcome.{Told, refusal_with_index, accepted, refused, first_refusal}
 use Rattle.refusal.proofs.Steps.{require_accepted, require_refused}
 use Rattle.refusal.proofs.First.{first_all, first_found, first_of, first_refused}
 use Rattle.grid.specs.Axis.{within, ◌to◌}
@@ -44,11 +44,11 @@ module _ (ns : List ℕ) (nine : length ns ≡ 9) where
   unfolding sensor_number_check
   inside i l e = rw (not-false _ (sym (pair_at i l) ∙ e))
 
-  refused_at : (i : ℕ) → i < 9 → outside (get_or pairs i (0, 0 to 0)) ≡ true → sensor_number_check ns i ≡ refuse 4 i
+  refused_at : (i : ℕ) → i < 9 → outside (get_or pairs i (0, 0 to 0)) ≡ true → sensor_number_check ns i ≡ refused (refusal_with_index 32 i i)
   unfolding sensor_number_check
   refused_at i l e = rw (not-true _ (sym (pair_at i l) ∙ e))
 
-  at_first : (i : ℕ) → ((k : ℕ) → k < i → k < 9 → sensor_number_check ns k ≡ accepted tt) → (i < 9 → sensor_number_check ns i ≡ refuse 4 i) → Dec (i < 9)
+  at_first : (i : ℕ) → ((k : ℕ) → k < i → k < 9 → sensor_number_check ns k ≡ accepted tt) → (i < 9 → sensor_number_check ns i ≡ refused (refusal_with_index 32 i i)) → Dec (i < 9)
       → sensor_fault_of (cond (ltb i 9) (Some i) None) ≡ sensor_check ns
   unfolding sensor_check
   at_first i passed stops (yes l) = rw (lt-ltb i 9 l) (sym (first_refused (sensor_number_check ns) 9 i _ l (λ k q. passed k q (omega arith)) (stops l)))
@@ -63,11 +63,11 @@ module _ (ns : List ℕ) (nine : length ns ≡ 9) where
       (dec_lt _ _))
 
 -- the index of a number out of its range is one of the nine
-pub index_below : (ns : List ℕ) (i : ℕ) → refuse 4 i ≡ sensor_check ns → i < 9
+pub index_below : (ns : List ℕ) (i : ℕ) → refused (refusal_with_index 32 i i) ≡ sensor_check ns → i < 9
 unfolding sensor_check sensor_number_check
 index_below ns i e =
     let s = first_found (sensor_number_check ns) 0 9 _ (sym e) in
-    let p = (require_refused (within (get_or sensor_ranges s.at (0 to 0)) (get_or ns s.at 0)) 4 s.at _ s.here).1 in
+    let p = (require_refused (within (get_or sensor_ranges s.at (0 to 0)) (get_or ns s.at 0)) (refusal_with_index 32 s.at s.at) _ s.here).1 in
     omega (arith, ap (λ (t : Told). t.place) p, s.below)
 
 -- ---- numbers that are accepted keep the rules of a sensor, and back
@@ -86,7 +86,7 @@ sensor_rules ns e = record {
 }
   where
     here : (k : ℕ) → k < 9 → InRange (get_or sensor_ranges k (0 to 0)) (get_or ns k 0)
-    here k l = in_range _ (get_or ns k 0) (require_accepted _ 4 k (first_all (sensor_number_check ns) 0 9 e k zero-le (omega arith)))
+    here k l = in_range _ (get_or ns k 0) (require_accepted _ _ (first_all (sensor_number_check ns) 0 9 e k zero-le (omega arith)))
 
 pub sensor_accepted : (s : Sensor) → SensorRules s → sensor_check (sensor_numbers s) ≡ accepted tt
 unfolding sensor_check sensor_number_check first_refusal

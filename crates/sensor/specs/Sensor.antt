@@ -1,6 +1,6 @@
--- Document 01, "Component data", tags 6 and 7, and document 02, C-11, tag 9: a sensor's nine numbers.
+-- Document 01, "Component data", tags 6 and 7, and document 02, C-11 (tag 9) and C-14 (32): a sensor's nine numbers.
 use Rattle.std.specs.Prelude.{ℕ, List, [], ◌∷◌, length, get_or}
-use Rattle.refusal.specs.Outcome.{Outcome, require, first_refusal}
+use Rattle.refusal.specs.Outcome.{Outcome, refusal_with_index, require_told, first_refusal}
 use Rattle.grid.specs.Axis.{within, ◌to◌}
 use Rattle.grid.specs.Rules.{InRange}
 use Rattle.grid.specs.declared.Range.{Range}
@@ -32,9 +32,9 @@ pub record SensorRules (s : Sensor) : Type 0 where
   pub difference : InRange (0 to 500) s.difference
   pub span : InRange (10 to 100) s.span
 
--- number i is in its range. The place is the number's index.
+-- number i is in its range. Its index is told, and stands for its place.
 unfoldable pub sensor_number_check : List ℕ → ℕ → Outcome (Unit {0})
-sensor_number_check ns i = require (within (get_or sensor_ranges i (0 to 0)) (get_or ns i 0)) 4 i
+sensor_number_check ns i = require_told (within (get_or sensor_ranges i (0 to 0)) (get_or ns i 0)) (refusal_with_index 32 i i)
 
 -- "numbers left to right"
 unfoldable pub sensor_check : List ℕ → Outcome (Unit {0})

@@ -1,5 +1,6 @@
 // How answers are written.
 use component::{Component, Measured};
+use refusal::Refusal;
 use std::io::Write;
 use std::{fmt, io};
 
@@ -26,6 +27,14 @@ impl fmt::Display for Hexadecimal<'_> {
             write!(f, "{byte:02X}")?;
         }
         Ok(())
+    }
+}
+
+// A refusal, and which number of its field it was where that is told.
+pub fn write_refusal(out: &mut impl Write, refusal: Refusal) -> io::Result<()> {
+    match refusal.index() {
+        Some(index) => writeln!(out, "{refusal} number {index}"),
+        None => writeln!(out, "{refusal}"),
     }
 }
 

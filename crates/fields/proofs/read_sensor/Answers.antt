@@ -7,7 +7,7 @@ use Rattle.fields.proofs.read_sensor.Goals as goal
 use Rattle.fields.proofs.read_sensor.Goals.{In-Some}
 
 -- the index is one of the nine
-at_fault : (c : In-Some) → c.in-Some.i < 9
+at_fault : (c : In-Some) → c.in-Some.index < 9
 at_fault c = index_below _ _ c.in-Some.ensures
 
 pub overflow_mul-result : goal.overflow_mul-result

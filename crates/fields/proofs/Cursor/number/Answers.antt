@@ -19,14 +19,15 @@ number_of-value-requires c =
 
 pub returns-then-not-contains-clause-answer : goal.returns-then-not-contains-clause-answer
 returns-then-not-contains-clause-answer c =
-    body_refused _ _ _ _ _ _ (rw c.bytes.ensures.answer at c.in_ok-found.ensures.answer) _
-    (number_refused _ _ _ _ _ (rw c.in_ok-found.ensures.body at c.number_of-value.ensures) c.contains.ensures c.if-not-contains.true)
+    rw c.refusal.ensures
+    (body_refused _ _ _ _ _ _ (rw c.bytes.ensures.answer at c.in_ok-found.ensures.answer) _
+    (number_refused _ _ _ _ _ _ (rw c.in_ok-found.ensures.body at c.number_of-value.ensures) c.contains.ensures c.if-not-contains.true))
 
 pub returns-clause-answer : goal.returns-clause-answer
 returns-clause-answer c =
     rw c.with_value.ensures
     (body_accepted _ _ _ _ _ _ (rw c.bytes.ensures.answer at c.in_ok-found.ensures.answer) _
-    (number_accepted _ _ _ _ _ (rw c.in_ok-found.ensures.body at c.number_of-value.ensures) c.contains.ensures c.if-not-contains.false))
+    (number_accepted _ _ _ _ _ _ (rw c.in_ok-found.ensures.body at c.number_of-value.ensures) c.contains.ensures c.if-not-contains.false))
 
 pub returns-clause-in_range : goal.returns-clause-in_range
 returns-clause-in_range c = rw c.with_value.ensures (in_range _ _ (sym c.contains.ensures ∙ c.if-not-contains.false))
