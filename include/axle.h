@@ -13,10 +13,16 @@
    data is longer than 24,853 bytes. docs/FORMAT.md has each kind byte by byte.
 
    Answers. `refusal` is 0 where the call is answered, else the number of the
-   refusal (below), and `place` its place. Values stand apart from them, and a
-   loss may be negative: test `refusal`, not the value. The values of a refused
-   answer are 0; the axes of a refused build have the counts 0, and their
-   numbers mean nothing.
+   refusal (below), and `place` its place. Of a build and of a write, `has_index`
+   is 1 where the refusal also says which number of its field it was, and `index`
+   is that number, from 0; else both are 0. Test `has_index`: index 0 is the first
+   number of a field. Values stand apart from them, and a loss may be negative:
+   test `refusal`, not the value. The values of a refused answer are 0; the axes
+   of a refused build have the counts 0, and their numbers mean nothing.
+
+   With 31 and 32 came `has_index` and `index`, so axle_built and
+   axle_write_answer have another layout than before: compile programs that use
+   them again, with this header.
 
    Every function accepts every value that its arguments' types have: nothing
    needs to be tested before a call. What a caller owes is memory: each pointer
@@ -27,12 +33,13 @@
    no state, so calls may run at the same time.
 
    Refusals, by number, with their place. Numbers that axle_write refuses stand
-   at no offset: its 3 to 10 have place 0.
+   at no offset: its 3 to 10, 31 and 32 have place 0.
      1 a head or a body that the end of the data cuts off; 2 another tag than the
        one due, or data that ends before the field; 3 a length that the field
        cannot have (of axle_write: a count of axis numbers or of row torques that
        there cannot be): the head's offset
-     4 a number that is not in its range; 5 an axis number that does not rise;
+     4 a kind, a line or an axis number that is not in its range; 5 an axis number
+       that does not rise;
        6 a first torque above the step to the second; 7 a measured torque (input,
        output; of kind 3 input, left, right) above its sensor's nominal torque;
        8 an output torque more than 5.00 Nm off its axis torque: the number's
@@ -44,7 +51,11 @@
      12 data that goes on past the last field: the next byte's offset
      20 a speed below or above its axis; 21 a torque above its axis: 0
      22 what is lent is no map: 0
-     30 a lent buffer shorter than the file: the length needed */
+     30 a lent buffer shorter than the file: the length needed
+     31 a ratio that is not in its range: the number's offset; its index is 0
+     32 a number of a sensor that is not in its range: the number's offset; its
+       index is 0 to 8, of N, w, z, c, k, s, p, d, R. The tag of the sensor's field
+       is the byte at place - 2 * index - 3 of the data */
 #ifndef AXLE_H
 #define AXLE_H
 
@@ -62,7 +73,9 @@ enum { AXLE_SPEEDS = 32, AXLE_TORQUES = 64, AXLE_ENTRIES = 2048, AXLE_TEXT = 655
 
 typedef struct {
     uint32_t refusal;
+    uint32_t has_index;
     size_t place;
+    size_t index;
     uint16_t speeds[32]; /* the first speed_count of them, rising */
     size_t speed_count;
     uint16_t torques[64]; /* the first torque_count of them, rising */
@@ -90,7 +103,13 @@ typedef struct {
 
 typedef axle_length_answer axle_listing_answer;
 
-typedef axle_length_answer axle_write_answer;
+typedef struct {
+    uint32_t refusal;
+    uint32_t has_index;
+    size_t place;
+    size_t index;
+    size_t length; /* bytes written */
+} axle_write_answer;
 
 /* The numbers of component data, but for its rows. A sensor's nine numbers are
    N, w, z, c, k, s, p, d, R in the order of the data; docs/FORMAT.md has their
@@ -110,7 +129,7 @@ typedef struct {
 
 /* Builds the map of component data. Entry (speed i, torque j) is written to
    entries[i * torque_count + j]; what stands past the last is not touched, and
-   a refusal leaves every entry as it was. Refusals 1 to 12. */
+   a refusal leaves every entry as it was. Refusals 1 to 12, 31 and 32. */
 axle_built axle_build(const uint8_t *data, size_t data_length,
                       uint32_t *entries, size_t entry_count);
 
@@ -146,9 +165,9 @@ axle_listing_answer axle_listing(const uint16_t speeds[32], size_t speed_count,
    accepts is the same bytes when its numbers are written again. With AXLE_FILE
    bytes lent, numbers are refused only where no data that says them builds.
    What stands past the file's length is not touched, and a refused call writes
-   nothing. Refusals, in this order: kind, line and ratio 4; speeds 3, then number
-   by number 4, 5; torques the same, then 6; sensors 4; the count of row torques
-   3; row by row 7 to 10; the buffer 30. */
+   nothing. Refusals, in this order: kind and line 4; ratio 31; speeds 3, then
+   number by number 4, 5; torques the same, then 6; sensors 32; the count of row
+   torques 3; row by row 7 to 10; the buffer 30. */
 axle_write_answer axle_write(axle_numbers numbers,
                              const uint32_t *rows, size_t row_torque_count,
                              uint8_t *file, size_t file_length);

@@ -34,7 +34,10 @@ int main(void)
 {
     axle_write_answer answer = axle_write(numbers, rows, sizeof rows / sizeof rows[0], file, sizeof file);
     if (answer.refusal != 0) {
-        fprintf(stderr, "write: refused %" PRIu32 " at %zu\n", answer.refusal, answer.place);
+        fprintf(stderr, "write: refused %" PRIu32 " at %zu", answer.refusal, answer.place);
+        if (answer.has_index)
+            fprintf(stderr, ", number %zu of its field", answer.index);
+        fputs("\n", stderr);
         return 1;
     }
     if (fwrite(file, 1, answer.length, stdout) != answer.length || fflush(stdout) != 0) {

@@ -42,7 +42,15 @@ fn kept_past(name: &str, bytes: &mut [u8], length: usize) -> String {
 }
 
 fn refused(refusal: Refusal) -> String {
-    format!("refused {} at {}\n", refusal.number, refusal.place)
+    let Refusal {
+        number,
+        place,
+        index,
+    } = refusal;
+    match index {
+        Some(index) => format!("refused {number} at {place} number {index}\n"),
+        None => format!("refused {number} at {place}\n"),
+    }
 }
 
 /// The case's answer; data that is to be read or reported is built.

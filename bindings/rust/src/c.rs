@@ -3,7 +3,9 @@
 #[repr(C)]
 pub struct Built {
     pub refusal: u32,
+    pub has_index: u32,
     pub place: usize,
+    pub index: usize,
     pub speeds: [u16; 32],
     pub speed_count: usize,
     pub torques: [u16; 64],
@@ -25,11 +27,19 @@ pub struct Nearest {
     pub torque: u16,
 }
 
-/// The answer of a listing and of a write.
 #[repr(C)]
-pub struct Length {
+pub struct Listing {
     pub refusal: u32,
     pub place: usize,
+    pub length: usize,
+}
+
+#[repr(C)]
+pub struct Written {
+    pub refusal: u32,
+    pub has_index: u32,
+    pub place: usize,
+    pub index: usize,
     pub length: usize,
 }
 
@@ -81,12 +91,12 @@ extern "C" {
         entry_count: usize,
         text: *mut u8,
         text_length: usize,
-    ) -> Length;
+    ) -> Listing;
     pub fn axle_write(
         numbers: Numbers,
         rows: *const u32,
         row_torque_count: usize,
         file: *mut u8,
         file_length: usize,
-    ) -> Length;
+    ) -> Written;
 }

@@ -40,17 +40,29 @@ pub const MAXIMUM_FILE_LENGTH: usize = 24_853;
 /// changes no answer.
 pub const READING_LIMIT: u64 = 32_768;
 
-fn answered<T>(refusal: u32, place: usize, value: T) -> Result<T, Refusal> {
+fn answered<T>(refusal: u32, place: usize, index: Option<usize>, value: T) -> Result<T, Refusal> {
     match refusal {
         0 => Ok(value),
-        number => Err(Refusal { number, place }),
+        number => Err(Refusal {
+            number,
+            place,
+            index,
+        }),
+    }
+}
+
+/// An index as C tells it: whether there is one, and the index.
+fn told(has_index: u32, index: usize) -> Option<usize> {
+    match has_index {
+        0 => None,
+        _ => Some(index),
     }
 }
 
 /// Builds the map of component data: its axes, and its entries in hundredths of Nm in the first
 /// speeds x torques of the lent entries: all torques of the first speed, then those of the next.
-/// Nothing is written past those, and nothing at all where the build is refused. Refusals 1 to 12;
-/// for data of kind 3 the place of 8 is that of the left torque.
+/// Nothing is written past those, and nothing at all where the build is refused. Refusals 1 to 12,
+/// 31 and 32; for data of kind 3 the place of 8 is that of the left torque.
 pub fn build(data: &[u8], entries: &mut [u32]) -> Result<Grid, Refusal> {
     // The pointers are those of slices, valid for their lengths and apart from each other.
     let built = unsafe {
@@ -67,7 +79,8 @@ pub fn build(data: &[u8], entries: &mut [u32]) -> Result<Grid, Refusal> {
         torques: built.torques,
         torque_count: built.torque_count,
     };
-    answered(built.refusal, built.place, grid)
+    let index = told(built.has_index, built.index);
+    answered(built.refusal, built.place, index, grid)
 }
 
 /// The loss in hundredths of Nm at a speed in tenths of rpm and a torque in hundredths of Nm.
@@ -86,7 +99,7 @@ pub fn loss(grid: &Grid, entries: &[u32], speed: u32, torque: u32) -> Result<i64
             torque,
         )
     };
-    answered(answer.refusal, answer.place, answer.loss)
+    answered(answer.refusal, answer.place, None, answer.loss)
 }
 
 /// The nearest grid point, a speed in rpm and a torque in Nm, to a speed in tenths of rpm and a
@@ -104,7 +117,12 @@ pub fn nearest(grid: &Grid, speed: u32, torque: u32) -> Result<(u16, u16), Refus
             torque,
         )
     };
-    answered(answer.refusal, answer.place, (answer.speed, answer.torque))
+    answered(
+        answer.refusal,
+        answer.place,
+        None,
+        (answer.speed, answer.torque),
+    )
 }
 
 /// Writes the listing of a map from the start of the text, and answers its length in bytes: lines
@@ -124,7 +142,7 @@ pub fn listing(grid: &Grid, entries: &[u32], text: &mut [u8]) -> Result<usize, R
             text.len(),
         )
     };
-    answered(answer.refusal, answer.place, answer.length)
+    answered(answer.refusal, answer.place, None, answer.length)
 }
 
 /// A map with its own entries. Maps are equal where their axes and entries are.
@@ -135,7 +153,7 @@ pub struct Map {
 }
 
 impl Map {
-    /// The map of component data. Refusals 1 to 10 and 12.
+    /// The map of component data. Refusals 1 to 10, 12, 31 and 32.
     pub fn build(data: &[u8]) -> Result<Map, Refusal> {
         let mut entries = vec![0; MAXIMUM_ENTRIES];
         let grid = build(data, &mut entries)?;

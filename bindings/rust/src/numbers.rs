@@ -1,6 +1,6 @@
 //! The numbers of component data, and the file that is made of them.
 
-use crate::{answered, c, Grid, Refusal, MAXIMUM_FILE_LENGTH};
+use crate::{answered, c, told, Grid, Refusal, MAXIMUM_FILE_LENGTH};
 
 /// A torque sensor, with document 01's letter of each number.
 #[derive(Clone, Copy, PartialEq, Eq, Debug, Default)]
@@ -101,7 +101,7 @@ pub struct Numbers {
 }
 
 impl Numbers {
-    /// The file that says these numbers. It builds. Refusals 3 to 10, each at 0.
+    /// The file that says these numbers. It builds. Refusals 3 to 10, 31 and 32, each at 0.
     pub fn write(&self) -> Result<Vec<u8>, Refusal> {
         let mut file = vec![0; MAXIMUM_FILE_LENGTH];
         let length = self.write_to(&mut file)?;
@@ -110,8 +110,8 @@ impl Numbers {
     }
 
     /// Writes the file from the start of the lent bytes, and answers its length. Nothing is written
-    /// past its length, and nothing at all where it is refused. Refusals 3 to 10, each at 0, then
-    /// 30 with the length needed.
+    /// past its length, and nothing at all where it is refused. Refusals 3 to 10, 31 and 32, each at
+    /// 0, then 30 with the length needed.
     pub fn write_to(&self, file: &mut [u8]) -> Result<usize, Refusal> {
         let grid = Grid {
             speeds: places(&self.speeds),
@@ -147,7 +147,8 @@ impl Numbers {
                 file.len(),
             )
         };
-        answered(answer.refusal, answer.place, answer.length)
+        let index = told(answer.has_index, answer.index);
+        answered(answer.refusal, answer.place, index, answer.length)
     }
 }
 

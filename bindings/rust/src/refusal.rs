@@ -9,13 +9,32 @@ use std::fmt;
 pub struct Refusal {
     pub number: u32,
     pub place: usize,
+    /// Which number of its field it was, from 0: of the ratio (31) number 0, of a sensor (32) the
+    /// number in the order of the data. None for every other refusal.
+    pub index: Option<usize>,
 }
+
+/// The numbers of a sensor in the order of the data.
+const SENSOR_NUMBERS: [&str; 9] = [
+    "N, nominal torque",
+    "w, influence of temperature on sensitivity",
+    "z, influence of temperature on zero",
+    "c, calibration",
+    "k, calibration advancement",
+    "s, parasitic sensitivity",
+    "p, parasitic share",
+    "d, temperature difference",
+    "R, reference span",
+];
 
 impl fmt::Display for Refusal {
     fn fmt(&self, f: &mut fmt::Formatter) -> fmt::Result {
         write!(f, "refused {} at {}", self.number, self.place)?;
         if let Some(words) = self.words() {
             write!(f, ": {words}")?;
+        }
+        if let Some((index, name)) = self.sensor_number() {
+            write!(f, ": number {index} from 0, {name}")?;
         }
         if let Some(meaning) = self.meaning_of_place() {
             write!(f, " ({meaning})")?;
@@ -48,19 +67,27 @@ impl Refusal {
             21 => "torque above the axis",
             22 => "not the axes and entries of a map",
             30 => "too little room for the file",
+            31 => "ratio out of range",
+            32 => "sensor number out of range",
             _ => return None,
         })
     }
 
-    /// What the place is, where it has a meaning. Numbers are refused with 3 to 10 at 0; data is not,
-    /// but with 3 for its first field.
+    /// Which number of a sensor it was, and what it is called.
+    fn sensor_number(&self) -> Option<(usize, &'static str)> {
+        let index = self.index.filter(|_| self.number == 32)?;
+        Some((index, SENSOR_NUMBERS.get(index)?))
+    }
+
+    /// What the place is, where it has a meaning. Numbers are refused with 3 to 10, 31 and 32 at 0;
+    /// data is not, but with 3 for its first field.
     fn meaning_of_place(&self) -> Option<&'static str> {
-        if self.place == 0 && (3..=10).contains(&self.number) {
+        if self.place == 0 && matches!(self.number, 3..=10 | 31 | 32) {
             return None;
         }
         Some(match self.number {
             1..=3 => "the field's offset",
-            4 | 5 => "the number's offset",
+            4 | 5 | 31 | 32 => "the number's offset",
             6 => "the first torque's offset",
             7 => "the torque's offset",
             8 => "the torque's offset, for kind 3 the left torque's",

@@ -88,7 +88,25 @@ fn refusal_of(data: &[u8]) -> Option<Refusal> {
 }
 
 fn refused(number: u32, place: usize) -> Option<Refusal> {
-    Some(Refusal { number, place })
+    Some(Refusal {
+        number,
+        place,
+        index: None,
+    })
+}
+
+/// `2 at 4`, or with which number of its field it was: `32 at 46, number 8`.
+fn told(text: &str) -> Option<Refusal> {
+    let (place, index) = match text.split_once(", number ") {
+        Some((text, index)) => (text, Some(number(index))),
+        None => (text, None),
+    };
+    let (told, place) = place.split_once(" at ").expect("a number and a place");
+    Some(Refusal {
+        number: number(told) as u32,
+        place: number(place),
+        index,
+    })
 }
 
 /// A field's tag, the offset of its head, and its body.
@@ -157,6 +175,20 @@ fn in_examples(tag: u8) -> Vec<(Vec<u8>, Field)> {
     found
 }
 
+/// The refusal of the number at an index of a field: a ratio and the sensors have their own.
+fn out_of_range(tag: u8, place: usize, index: usize) -> Option<Refusal> {
+    let (number, index) = match tag {
+        3 => (31, Some(index)),
+        6 | 7 | 9 => (32, Some(index)),
+        _ => (4, None),
+    };
+    Some(Refusal {
+        number,
+        place,
+        index,
+    })
+}
+
 /// The limits of the number at an index of a field: both are in its range, and one beyond each is not.
 fn hold_range(tag: u8, index: usize, width: usize, lowest: usize, highest: usize) {
     for (example, field) in in_examples(tag) {
@@ -166,12 +198,13 @@ fn hold_range(tag: u8, index: usize, width: usize, lowest: usize, highest: usize
             body[index * width..][..width].copy_from_slice(&value.to_be_bytes()[8 - width..]);
             refusal_of(&with_body(&example, tag, &body))
         };
+        let outside = out_of_range(tag, place, index);
         for inside in [lowest, highest] {
-            assert_ne!(answer(inside), refused(4, place), "tag {tag}: {inside}");
+            assert_ne!(answer(inside), outside, "tag {tag}: {inside}");
         }
-        assert_eq!(answer(highest + 1), refused(4, place), "tag {tag}");
+        assert_eq!(answer(highest + 1), outside, "tag {tag}");
         if lowest > 0 {
-            assert_eq!(answer(lowest - 1), refused(4, place), "tag {tag}");
+            assert_eq!(answer(lowest - 1), outside, "tag {tag}");
         }
     }
 }
@@ -411,10 +444,8 @@ fn tried_refusal(example: &[u8], tried: &str) -> Option<Refusal> {
 fn hold_refusals(second_column: &str, refusal: impl Fn(&str) -> Option<Refusal>) -> Vec<usize> {
     let rows = table(&page(), "number", second_column);
     for row in &rows {
-        let (told, place) = row[4].split_once(" at ").expect("a number and a place");
-        assert_eq!(told, row[0]);
-        let expected = refused(number(told) as u32, number(place));
-        assert_eq!(refusal(&row[3]), expected, "{}", row[3]);
+        assert!(row[4].starts_with(&format!("{} at ", row[0])));
+        assert_eq!(refusal(&row[3]), told(&row[4]), "{}", row[3]);
     }
     let mut numbers: Vec<usize> = rows.iter().map(|row| number(&row[0])).collect();
     numbers.dedup();
@@ -423,7 +454,7 @@ fn hold_refusals(second_column: &str, refusal: impl Fn(&str) -> Option<Refusal>)
 
 #[test]
 fn refusals_are_those_of_the_table() {
-    let all: Vec<usize> = (1..=12).chain(20..=22).chain([30]).collect();
+    let all: Vec<usize> = (1..=12).chain(20..=22).chain(30..=32).collect();
     let numbers = hold_refusals("when", |tried| tried_refusal(&measured(), tried));
     assert_eq!(numbers, all);
 }
@@ -431,7 +462,7 @@ fn refusals_are_those_of_the_table() {
 #[test]
 fn refusals_of_kind_3_are_those_of_the_table() {
     let numbers = hold_refusals("of kind 3", |tried| tried_refusal(&half_shafts(), tried));
-    assert_eq!(numbers, [1, 2, 3, 4, 7, 8, 9, 10, 12]);
+    assert_eq!(numbers, [1, 2, 3, 4, 7, 8, 9, 10, 12, 32]);
 }
 
 /// An example over a grid of so many speeds and torques, with the same torque at the input and at the output of a row; of kind 3 a quarter of it is at the right.

@@ -41,7 +41,20 @@ fn entry(torques: [u32; 3]) -> Result<u32, Refusal> {
 }
 
 fn refused<T>(number: u32, place: usize) -> Result<T, Refusal> {
-    Err(Refusal { number, place })
+    Err(Refusal {
+        number,
+        place,
+        index: None,
+    })
+}
+
+/// A number of a sensor, by its index.
+fn sensor_refused<T>(place: usize, index: usize) -> Result<T, Refusal> {
+    Err(Refusal {
+        number: 32,
+        place,
+        index: Some(index),
+    })
 }
 
 /// At 1,000 Nm and 100 rpm 20.00 Nm are lost, with an allowance of 1 Nm × 3.000, 3.00 Nm: 26.00 Nm.
@@ -217,11 +230,11 @@ fn numbers_of_the_right_sensor() {
         let place = RIGHT_SENSOR + 3 + 2 * index;
         let answer = |number: u16| Map::build(&with_numbers(&[(place, number)]));
         for inside in [lowest, highest] {
-            assert_ne!(answer(inside), refused(4, place));
+            assert_ne!(answer(inside), sensor_refused(place, index));
         }
-        assert_eq!(answer(highest + 1), refused(4, place));
+        assert_eq!(answer(highest + 1), sensor_refused(place, index));
         if lowest > 0 {
-            assert_eq!(answer(lowest - 1), refused(4, place));
+            assert_eq!(answer(lowest - 1), sensor_refused(place, index));
         }
     }
 }

@@ -6,16 +6,39 @@ use axle::{build, Map, Refusal, READING_LIMIT};
 const MEASURED: &[u8] = include_bytes!("../../../examples/measured.axle");
 const HALF_SHAFTS: &[u8] = include_bytes!("../../../examples/half-shafts.axle");
 
-/// The refusal of the measured example with other bytes from an offset on.
-fn refused(offset: usize, bytes: &[u8]) -> (u32, usize) {
+/// The measured example with other bytes from an offset on.
+fn with_bytes(offset: usize, bytes: &[u8]) -> Vec<u8> {
     let mut data = MEASURED.to_vec();
     data[offset..offset + bytes.len()].copy_from_slice(bytes);
-    refusal_of(&data)
+    data
 }
 
+fn refused(offset: usize, bytes: &[u8]) -> (u32, usize) {
+    refusal_of(&with_bytes(offset, bytes))
+}
+
+/// A refusal that is of no number of a field.
 fn refusal_of(data: &[u8]) -> (u32, usize) {
     let refusal = Map::build(data).expect_err("refused");
+    assert_eq!(refusal.index, None);
     (refusal.number, refusal.place)
+}
+
+fn refusal(number: u32, place: usize) -> Refusal {
+    Refusal {
+        number,
+        place,
+        index: None,
+    }
+}
+
+/// A refusal of the number with this index in its field.
+fn of_number(number: u32, place: usize, index: usize) -> Refusal {
+    Refusal {
+        number,
+        place,
+        index: Some(index),
+    }
 }
 
 #[test]
@@ -45,14 +68,29 @@ fn numbers_of_the_component() {
     assert_eq!(refused(3, &[0]), (4, 3));
     assert_eq!(refused(3, &[4]), (4, 3));
     assert_eq!(refused(7, &[6]), (4, 7));
-    assert_eq!(refused(11, &999u16.to_be_bytes()), (4, 11));
     assert_eq!(refused(16, &[0, 0]), (4, 16));
     assert_eq!(refused(25, &50_001u16.to_be_bytes()), (4, 25));
-    // The reference span of the input sensor, from 10 K on.
-    assert_eq!(refused(46, &[0, 9]), (4, 46));
     assert_eq!(refused(18, &[0, 100]), (5, 18));
     assert_eq!(refused(25, &1_000u16.to_be_bytes()), (5, 25));
     assert_eq!(refused(23, &1_501u16.to_be_bytes()), (6, 23));
+}
+
+#[test]
+fn the_ratio_and_the_sensors() {
+    let answer = |offset, number: u16| Map::build(&with_bytes(offset, &number.to_be_bytes()));
+    for ratio in [0, 999, 20_001, u16::MAX] {
+        assert_eq!(answer(11, ratio), Err(of_number(31, 11, 0)));
+    }
+    // No number of a sensor is in its range at 65,535.
+    for body in [30, 51] {
+        for index in 0..9 {
+            let place = body + 2 * index;
+            assert_eq!(answer(place, u16::MAX), Err(of_number(32, place, index)));
+        }
+    }
+    // The nominal torque of the output sensor, and the reference span of the input sensor.
+    assert_eq!(answer(51, 0), Err(of_number(32, 51, 0)));
+    assert_eq!(answer(46, 9), Err(of_number(32, 46, 8)));
 }
 
 #[test]
@@ -82,11 +120,10 @@ fn five_newton_metres_off_pass() {
 #[test]
 fn room_and_length() {
     let mut entries = [7; 3];
-    let refusal = |number, place| Err(Refusal { number, place });
-    assert_eq!(build(MEASURED, &mut entries), refusal(11, 4));
+    assert_eq!(build(MEASURED, &mut entries), Err(refusal(11, 4)));
     let mut data = MEASURED.to_vec();
     data.push(0);
-    assert_eq!(build(&data, &mut entries), refusal(12, 104));
+    assert_eq!(build(&data, &mut entries), Err(refusal(12, 104)));
     assert_eq!(entries, [7; 3]);
 }
 
@@ -105,7 +142,7 @@ fn nothing_past_the_reading_limit_changes_the_answer() {
 
 #[test]
 fn refusals_print_by_their_words() {
-    let text = |number, place| Refusal { number, place }.to_string();
+    let text = |number, place| refusal(number, place).to_string();
     assert_eq!(
         text(9, 80),
         "refused 9 at 80: measured loss under zero (the row's offset)"
@@ -123,21 +160,39 @@ fn refusals_print_by_their_words() {
         text(30, 27),
         "refused 30 at 27: too little room for the file (the length needed)"
     );
-    for number in [0, 13, 19, 23, 29, 31, u32::MAX] {
+    for number in [0, 13, 19, 23, 29, 33, u32::MAX] {
         assert_eq!(text(number, 5), format!("refused {} at 5", number));
     }
+    let text = |number, place, index| of_number(number, place, index).to_string();
+    assert_eq!(
+        text(31, 11, 0),
+        "refused 31 at 11: ratio out of range (the number's offset)"
+    );
+    assert_eq!(
+        text(32, 59, 4),
+        "refused 32 at 59: sensor number out of range: number 4 from 0, k, calibration advancement (the number's offset)"
+    );
+    assert_eq!(
+        text(32, 0, 0),
+        "refused 32 at 0: sensor number out of range: number 0 from 0, N, nominal torque"
+    );
+    // No sensor has a number 9.
+    assert_eq!(
+        text(32, 0, 9),
+        "refused 32 at 0: sensor number out of range"
+    );
 }
 
 /// Numbers stand at no offset: of what refuses them the words are told alone.
 #[test]
 fn refused_numbers_print_without_an_offset() {
-    let text = |number| Refusal { number, place: 0 }.to_string();
+    let text = |number| refusal(number, 0).to_string();
     assert_eq!(
         text(3),
         "refused 3 at 0: too few or too many numbers, or a field of a wrong length"
     );
     assert_eq!(text(4), "refused 4 at 0: number out of range");
-    for number in 3..=10 {
+    for number in (3..=10).chain([31, 32]) {
         assert!(!text(number).contains("offset"), "{}", text(number));
     }
     for number in [1, 2, 12] {
@@ -148,8 +203,8 @@ fn refused_numbers_print_without_an_offset() {
 #[test]
 fn every_number_has_words_of_its_own() {
     let mut all: Vec<String> = Vec::new();
-    for number in (1..=12).chain(20..=22).chain([30]) {
-        let text = Refusal { number, place: 5 }.to_string();
+    for number in (1..=12).chain(20..=22).chain(30..=32) {
+        let text = refusal(number, 5).to_string();
         let words = text.strip_prefix(&format!("refused {} at 5: ", number));
         let words = words.expect("words").to_string();
         let has_place = !(20..=22).contains(&number);

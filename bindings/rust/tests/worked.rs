@@ -21,6 +21,14 @@ fn measured(input: u32) -> Vec<u8> {
     data
 }
 
+fn refused<T>(number: u32, place: usize) -> Result<T, Refusal> {
+    Err(Refusal {
+        number,
+        place,
+        index: None,
+    })
+}
+
 #[test]
 fn the_example_of_the_map_program() {
     let map = Map::build(&STANDARD).expect("accepted");
@@ -61,8 +69,7 @@ fn measured_losses() {
     assert_eq!(loss(110_000), Ok(30_000));
     assert_eq!(loss(102_000), Ok(6_700));
     assert_eq!(loss(100_000), Ok(700));
-    let (number, place) = (9, SECOND_ROW);
-    assert_eq!(loss(99_999), Err(Refusal { number, place }));
+    assert_eq!(loss(99_999), refused(9, SECOND_ROW));
 }
 
 /// The measured example with this ratio and no loss in any row.
@@ -117,11 +124,10 @@ fn nearest_points() {
 #[test]
 fn a_refused_build_leaves_the_entries() {
     let mut entries = [7; 4];
-    let refusal = |number, place| Err(Refusal { number, place });
-    assert_eq!(build(&[], &mut entries), refusal(2, 0));
-    assert_eq!(build(&[1], &mut entries), refusal(1, 0));
-    assert_eq!(build(&STANDARD, &mut entries[..3]), refusal(11, 4));
-    assert_eq!(build(&STANDARD, &mut []), refusal(11, 4));
+    assert_eq!(build(&[], &mut entries), refused(2, 0));
+    assert_eq!(build(&[1], &mut entries), refused(1, 0));
+    assert_eq!(build(&STANDARD, &mut entries[..3]), refused(11, 4));
+    assert_eq!(build(&STANDARD, &mut []), refused(11, 4));
     assert_eq!(entries, [7; 4]);
 }
 
@@ -140,8 +146,7 @@ fn a_listing_touches_nothing_beyond_its_end() {
     let needed = STANDARD_LISTING.len();
     assert_eq!(needed, 76);
     let short = listing(&grid, &entries, &mut text[..needed - 1]);
-    let (number, place) = (11, needed);
-    assert_eq!(short, Err(Refusal { number, place }));
+    assert_eq!(short, refused(11, needed));
     assert_eq!(text, [7; 78]);
     assert_eq!(listing(&grid, &entries, &mut text[..needed]), Ok(needed));
     assert_eq!(&text[..needed], STANDARD_LISTING.as_bytes());
@@ -154,13 +159,12 @@ fn a_listing_touches_nothing_beyond_its_end() {
 fn questions_outside_the_map() {
     let mut entries = [0; 4];
     let grid = build(&STANDARD, &mut entries).expect("accepted");
-    let refusal = |number| Err(Refusal { number, place: 0 });
-    assert_eq!(loss(&grid, &entries, 999, 0), refusal(20));
+    assert_eq!(loss(&grid, &entries, 999, 0), refused(20, 0));
     assert_eq!(loss(&grid, &entries, 1_000, 0), Ok(13_000));
     assert_eq!(loss(&grid, &entries, 2_000, 100_000), Ok(15_041));
-    assert_eq!(loss(&grid, &entries, 2_001, 100_000), refusal(20));
-    assert_eq!(loss(&grid, &entries, 2_000, 100_001), refusal(21));
-    assert_eq!(loss(&grid, &entries, 2_001, 100_001), refusal(20));
+    assert_eq!(loss(&grid, &entries, 2_001, 100_000), refused(20, 0));
+    assert_eq!(loss(&grid, &entries, 2_000, 100_001), refused(21, 0));
+    assert_eq!(loss(&grid, &entries, 2_001, 100_001), refused(20, 0));
 }
 
 #[test]
@@ -168,22 +172,18 @@ fn what_is_no_map() {
     let mut entries = [0; 4];
     let mut text = [7; 100];
     let grid = build(&STANDARD, &mut entries).expect("accepted");
-    let refusal = Refusal {
-        number: 22,
-        place: 0,
-    };
     // The nearest point looks at the axes alone.
-    assert_eq!(loss(&grid, &entries[..3], 1_000, 0), Err(refusal));
-    assert_eq!(listing(&grid, &entries[..3], &mut text), Err(refusal));
+    assert_eq!(loss(&grid, &entries[..3], 1_000, 0), refused(22, 0));
+    assert_eq!(listing(&grid, &entries[..3], &mut text), refused(22, 0));
     assert_eq!(nearest(&grid, 1_000, 0), Ok((100, 0)));
     for count in [0, 1, 33, usize::MAX] {
         let mut other = grid;
         other.speed_count = count;
-        assert_eq!(loss(&other, &entries, 1_000, 0), Err(refusal));
-        assert_eq!(listing(&other, &entries, &mut text), Err(refusal));
-        assert_eq!(nearest(&other, 1_000, 0), Err(refusal));
+        assert_eq!(loss(&other, &entries, 1_000, 0), refused(22, 0));
+        assert_eq!(listing(&other, &entries, &mut text), refused(22, 0));
+        assert_eq!(nearest(&other, 1_000, 0), refused(22, 0));
     }
     entries[3] = 10_000_001;
-    assert_eq!(loss(&grid, &entries, 1_000, 0), Err(refusal));
+    assert_eq!(loss(&grid, &entries, 1_000, 0), refused(22, 0));
     assert_eq!(text, [7; 100]);
 }

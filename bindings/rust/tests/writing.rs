@@ -77,7 +77,18 @@ fn garbage() -> Sensor {
 /// Refused with this number at 0, however much room there is, and the lent bytes are left.
 #[track_caller]
 fn assert_refused(numbers: &Numbers, number: u32) {
-    let refusal = Refusal { number, place: 0 };
+    assert_refused_with(numbers, number, None);
+}
+
+/// The same, of the number with this index in its field.
+#[track_caller]
+fn assert_refused_with(numbers: &Numbers, number: u32, index: Option<usize>) {
+    let place = 0;
+    let refusal = Refusal {
+        number,
+        place,
+        index,
+    };
     assert_eq!(numbers.write(), Err(refusal));
     let mut file = [7; 150];
     assert_eq!(numbers.write_to(&mut file), Err(refusal));
@@ -87,8 +98,11 @@ fn assert_refused(numbers: &Numbers, number: u32) {
 
 /// The refusal of lent bytes that are fewer than these.
 fn too_short(length: usize) -> Result<usize, Refusal> {
-    let (number, place) = (30, length);
-    Err(Refusal { number, place })
+    Err(Refusal {
+        number: 30,
+        place: length,
+        index: None,
+    })
 }
 
 #[track_caller]
@@ -187,7 +201,7 @@ fn kind_line_and_ratio() {
         assert_refused(&axle(1, line, 3_000), 4);
     }
     for ratio in [0, 999, 20_001, u16::MAX] {
-        assert_refused(&axle(1, 1, ratio), 4);
+        assert_refused_with(&axle(1, 1, ratio), 31, Some(0));
     }
     for line in 1..=5 {
         assert_accepted(&axle(1, line, 1_000));
@@ -245,6 +259,7 @@ fn counts_of_any_size() {
     let refused = Err(Refusal {
         number: 3,
         place: 0,
+        index: None,
     });
     for count in [0, 1, 33, 64, 65, 1 << 32, (1 << 32) + 2, usize::MAX] {
         let written = on_grid(0, |grid| grid.speed_count = count);
@@ -319,7 +334,7 @@ fn numbers_of_the_sensors() {
                 changed
             };
             for outside in [lowest.wrapping_sub(1), highest + 1, u16::MAX] {
-                assert_refused(&with(outside), 4);
+                assert_refused_with(&with(outside), 32, Some(index));
             }
             assert_accepted(&with(highest));
             // A nominal torque of 1 Nm is in its range, and below the readings.
@@ -347,7 +362,7 @@ fn counts_of_row_torques() {
     let mut numbers = measured();
     numbers.rows.pop();
     numbers.output.span = 9;
-    assert_refused(&numbers, 4);
+    assert_refused_with(&numbers, 32, Some(8));
 }
 
 /// Numbers with another torque of a row, by its index among all torques.
@@ -410,10 +425,11 @@ fn all_wrong() -> Numbers {
 type Mend = fn(&mut Numbers);
 
 /// What numbers that are all wrong are refused with, and what mends that alone; one after the other.
+/// Of a ratio and of a sensor it is number 0.
 const MENDED: [(u32, Mend); 20] = [
     (4, |n| n.kind = 3),
     (4, |n| n.line = 1),
-    (4, |n| n.ratio = 3_000),
+    (31, |n| n.ratio = 3_000),
     (3, |n| n.speeds = vec![0, 0]),
     (4, |n| n.speeds = vec![7, 7]),
     (5, |n| n.speeds = vec![100, 200]),
@@ -421,9 +437,9 @@ const MENDED: [(u32, Mend); 20] = [
     (4, |n| n.torques = vec![3_000, 3_000]),
     (5, |n| n.torques = vec![2_000, 3_000]),
     (6, |n| n.torques = vec![1_000, 3_000]),
-    (4, |n| n.input = calibrated(10_000)),
-    (4, |n| n.output = calibrated(30_000)),
-    (4, |n| n.right = calibrated(15_000)),
+    (32, |n| n.input = calibrated(10_000)),
+    (32, |n| n.output = calibrated(30_000)),
+    (32, |n| n.right = calibrated(15_000)),
     (3, |n| n.rows = vec![u32::MAX; 12]),
     (7, |n| n.rows[0] = 33_333),
     (7, |n| n.rows[1] = 60_000),
@@ -437,7 +453,8 @@ const MENDED: [(u32, Mend); 20] = [
 fn the_order_of_the_tests() {
     let mut numbers = all_wrong();
     for (number, mend) in MENDED {
-        assert_refused(&numbers, number);
+        let index = matches!(number, 31 | 32).then(|| 0);
+        assert_refused_with(&numbers, number, index);
         mend(&mut numbers);
     }
     assert_eq!(numbers.write_to(&mut [0; 140]), too_short(141));

@@ -97,6 +97,37 @@ fn refused_data_of_kind_3() {
 }
 
 #[test]
+fn which_number_of_which_sensor() {
+    let refused = |file: &str, place: usize, message: &str| {
+        let mut data = std::fs::read(examples_folder().join(file)).expect("read");
+        data[place..place + 2].copy_from_slice(&[255; 2]);
+        let message = format!("axle: refused {}\n", message);
+        for word in ["list", "check"] {
+            assert_failed(run_with_input(&[word, "-"], &data), 1, &message);
+        }
+    };
+    let ratio = "31 at 11: ratio out of range (the number's offset)";
+    refused(MEASURED, 11, ratio);
+    let sensors = [
+        (MEASURED, 30, "input"),
+        (MEASURED, 51, "output"),
+        (HALF_SHAFTS, 30, "input"),
+        (HALF_SHAFTS, 51, "left"),
+        (HALF_SHAFTS, 72, "right"),
+    ];
+    for (file, body, sensor) in sensors {
+        for (index, name) in SENSOR_NUMBERS.into_iter().enumerate() {
+            let place = body + 2 * index;
+            let message = format!(
+                "32 at {place}: sensor number out of range: number {index} from 0, {name} \
+                 (the number's offset), of the {sensor} sensor"
+            );
+            refused(file, place, &message);
+        }
+    }
+}
+
+#[test]
 fn questions_outside_the_map() {
     let loss = |speed, torque| run(["loss", STANDARD, speed, torque]);
     let outside = "axle: refused 20 at 0: speed outside the axis\n";

@@ -18,6 +18,19 @@ const MEASURED: &str = "measured.axle";
 const HALF_SHAFTS: &str = "half-shafts.axle";
 const REFUSED: &str = "refused.axle";
 
+/// What a sensor's numbers are called, in their order.
+const SENSOR_NUMBERS: [&str; 9] = [
+    "N, nominal torque",
+    "w, influence of temperature on sensitivity",
+    "z, influence of temperature on zero",
+    "c, calibration",
+    "k, calibration advancement",
+    "s, parasitic sensitivity",
+    "p, parasitic share",
+    "d, temperature difference",
+    "R, reference span",
+];
+
 fn examples_folder() -> PathBuf {
     PathBuf::from(env!("CARGO_MANIFEST_DIR")).join("../../examples")
 }

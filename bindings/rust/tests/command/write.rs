@@ -29,7 +29,11 @@ fn assert_written(output: Output, file: &[u8]) {
 /// The measured text with other lines in place of those that begin with a word.
 #[track_caller]
 fn with(word: &str, line: &str) -> String {
-    let text = measured();
+    changed(&measured(), word, line)
+}
+
+#[track_caller]
+fn changed(text: &str, word: &str, line: &str) -> String {
     let is_word = |line: &str| line.split(' ').next() == Some(word);
     assert!(text.lines().any(is_word), "{}", word);
     let lines = text
@@ -249,13 +253,14 @@ fn words_that_are_not_looked_at() {
 
 const COUNT: &str = "3 at 0: too few or too many numbers, or a field of a wrong length";
 const RANGE: &str = "4 at 0: number out of range";
+const RATIO: &str = "31 at 0: ratio out of range";
 const NOMINAL: &str = "7 at 0: measured torque above the sensor's nominal torque";
 
 #[test]
 fn numbers_that_are_refused() {
     assert_refused(with("kind", "kind 4"), RANGE);
     assert_refused(with("line", "line 6"), RANGE);
-    assert_refused(with("ratio", "ratio 0.999"), RANGE);
+    assert_refused(with("ratio", "ratio 0.999"), RATIO);
     assert_refused(with("speeds", "speeds"), COUNT);
     assert_refused(with("speeds", "speeds 100"), COUNT);
     let speeds: Vec<String> = (1..=33).map(|speed| speed.to_string()).collect();
@@ -267,7 +272,6 @@ fn numbers_that_are_refused() {
     assert_refused(with("speeds", "speeds 200 100"), rising);
     let step = "6 at 0: first torque above the step to the second";
     assert_refused(with("torques", "torques 1501 3000"), step);
-    assert_refused(with("input", "input 10000 0 0 100 1000 0 0 0 9"), RANGE);
     assert_refused(format!("{}row 1 1\n", measured()), COUNT);
     assert_refused(with("row", "row 10000.01 1000"), NOMINAL);
     let off = "8 at 0: output torque more than 5.00 Nm off the axis torque";
@@ -279,6 +283,49 @@ fn numbers_that_are_refused() {
     assert_refused(text, large);
 }
 
+/// The words for a sensor's number, by its index.
+fn sensor_refused(index: usize, sensor: &str) -> String {
+    let name = SENSOR_NUMBERS[index];
+    format!(
+        "32 at 0: sensor number out of range: number {} from 0, {}, of the {} sensor",
+        index, name, sensor
+    )
+}
+
+/// A text with a number that no range reaches at this index of a sensor.
+#[track_caller]
+fn with_wrong(text: &str, word: &str, index: usize) -> String {
+    let mut numbers = ["10000", "0", "0", "100", "1000", "0", "0", "0", "10"];
+    numbers[index] = "65535";
+    changed(text, word, &format!("{} {}", word, numbers.join(" ")))
+}
+
+#[test]
+fn which_number_of_which_sensor() {
+    let half_shafts = String::from_utf8(example("half-shafts.numbers")).expect("UTF-8");
+    let sensors = [
+        (measured(), "input", "input"),
+        (measured(), "output", "output"),
+        (half_shafts.clone(), "input", "input"),
+        (half_shafts.clone(), "output", "left"),
+        (half_shafts.clone(), "right", "right"),
+    ];
+    for (text, word, sensor) in sensors {
+        for index in 0..9 {
+            let wrong = with_wrong(&text, word, index);
+            assert_refused(wrong, &sensor_refused(index, sensor));
+        }
+    }
+    // Of wrong sensors the first is told, whichever of their numbers is wrong.
+    let right = with_wrong(&half_shafts, "right", 3);
+    for index in [2, 3, 4] {
+        let left = with_wrong(&right, "output", index);
+        assert_refused(&left, &sensor_refused(index, "left"));
+        let input = with_wrong(&left, "input", 3);
+        assert_refused(input, &sensor_refused(3, "input"));
+    }
+}
+
 /// Each of these would be the right number again if it came round at 16 or 32 bits.
 #[test]
 fn numbers_beyond_their_fields() {
@@ -287,12 +334,12 @@ fn numbers_beyond_their_fields() {
     }
     assert_refused(with("kind", "kind 258"), RANGE);
     assert_refused(with("line", "line 65537"), RANGE);
-    assert_refused(with("ratio", "ratio 68.536"), RANGE);
-    assert_refused(with("ratio", "ratio 4294970.296"), RANGE);
+    assert_refused(with("ratio", "ratio 68.536"), RATIO);
+    assert_refused(with("ratio", "ratio 4294970.296"), RATIO);
     assert_refused(with("speeds", "speeds 65636 200"), RANGE);
     assert_refused(with("torques", "torques 1000 68536"), RANGE);
     let sensor = "input 75536 0 0 100 1000 0 0 0 10";
-    assert_refused(with("input", sensor), RANGE);
+    assert_refused(with("input", sensor), &sensor_refused(0, "input"));
     assert_refused(with("row", "row 42950012.96 1000"), NOMINAL);
     assert_refused(with("row", "row 340 42950672.96"), NOMINAL);
 }

@@ -61,9 +61,16 @@ fn refusal_of_text(text: &str) -> Option<Refusal> {
     let output = command.arg("write").arg(&name).output().expect("it runs");
     let message = String::from_utf8(output.stderr).expect("UTF-8");
     let refusal = message.strip_prefix("axle: refused ")?;
-    let (refusal, _) = refusal.split_once(": ")?;
-    let (told, place) = refusal.split_once(" at ")?;
-    refused(number(told) as u32, number(place))
+    let (refusal, words) = refusal.split_once(": ")?;
+    // Of a sensor the words say which number it was; a ratio is the only number of its field.
+    match words.split_once(": number ") {
+        Some((_, words)) => {
+            let (index, _) = words.split_once(" from 0").expect("counted from 0");
+            told(&format!("{}, number {}", refusal, index))
+        }
+        None if words.starts_with("ratio ") => told(&format!("{}, number 0", refusal)),
+        None => told(refusal),
+    }
 }
 
 #[test]
@@ -71,7 +78,7 @@ fn refusals_of_numbers_are_those_of_the_table() {
     assert_eq!(refusal_of_text(&text_named("measured.numbers")), None);
     let refusal = |tried: &str| refusal_of_text(&with_lines(tried));
     let numbers = hold_refusals("of numbers", refusal);
-    assert_eq!(numbers, [3, 4, 5, 6, 7, 8, 9, 10]);
+    assert_eq!(numbers, [3, 4, 5, 6, 7, 8, 9, 10, 31, 32]);
     let rows = table(&page(), "number", "of numbers");
     assert!(rows.iter().all(|row| row[2] == "0"), "the place");
 }

@@ -3,6 +3,7 @@
 use crate::failure::Failure;
 use crate::numbers::{hundredths, SPEED, TORQUE};
 use crate::numbers_text;
+use crate::sensors;
 use crate::streams;
 use axle::Map;
 use std::cmp::Ordering;
@@ -98,7 +99,11 @@ fn is_option(text: &OsStr) -> bool {
 }
 
 fn map(file: &OsStr) -> Result<Map, Failure> {
-    Ok(Map::build(&streams::read_data(file)?)?)
+    let data = streams::read_data(file)?;
+    Map::build(&data).map_err(|refusal| Failure::Refused {
+        refusal,
+        sensor: sensors::in_data(&data, &refusal),
+    })
 }
 
 fn list(arguments: &[OsString]) -> Result<Vec<u8>, Failure> {
@@ -136,5 +141,9 @@ fn check(arguments: &[OsString]) -> Result<Vec<u8>, Failure> {
 
 fn write(arguments: &[OsString]) -> Result<Vec<u8>, Failure> {
     let text = streams::read_text(&arguments[0])?;
-    Ok(numbers_text::numbers(&text)?.write()?)
+    let numbers = numbers_text::numbers(&text)?;
+    numbers.write().map_err(|refusal| Failure::Refused {
+        refusal,
+        sensor: sensors::in_numbers(&numbers, &refusal),
+    })
 }

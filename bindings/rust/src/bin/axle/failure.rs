@@ -4,8 +4,12 @@ use axle::Refusal;
 use std::fmt;
 
 pub enum Failure {
-    /// The library refused the data, the numbers or the question.
-    Refused(Refusal),
+    /// The library refused the data, the numbers or the question; and the sensor that it is of,
+    /// where it refused a sensor's number.
+    Refused {
+        refusal: Refusal,
+        sensor: Option<&'static str>,
+    },
     /// Something could not be read or written, or is not allowed as an argument or in a text.
     Failed(String),
     /// Other arguments than those of a command: what is wrong, and the usage.
@@ -15,7 +19,7 @@ pub enum Failure {
 impl Failure {
     pub fn status(&self) -> u8 {
         match self {
-            Failure::Refused(_) => 1,
+            Failure::Refused { .. } => 1,
             Failure::Failed(_) | Failure::WrongUsage { .. } => 2,
         }
     }
@@ -23,14 +27,21 @@ impl Failure {
 
 impl From<Refusal> for Failure {
     fn from(refusal: Refusal) -> Failure {
-        Failure::Refused(refusal)
+        let sensor = None;
+        Failure::Refused { refusal, sensor }
     }
 }
 
 impl fmt::Display for Failure {
     fn fmt(&self, f: &mut fmt::Formatter) -> fmt::Result {
         match self {
-            Failure::Refused(refusal) => write!(f, "axle: {refusal}"),
+            Failure::Refused { refusal, sensor } => {
+                write!(f, "axle: {refusal}")?;
+                match sensor {
+                    Some(sensor) => write!(f, ", of the {sensor} sensor"),
+                    None => Ok(()),
+                }
+            }
             Failure::Failed(message) => write!(f, "axle: {message}"),
             Failure::WrongUsage { message, usage } => write!(f, "axle: {message}\nusage: {usage}"),
         }

@@ -6,6 +6,7 @@ mod failure;
 mod help;
 mod numbers;
 mod numbers_text;
+mod sensors;
 mod streams;
 
 use failure::Failure;
