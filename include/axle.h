@@ -20,9 +20,8 @@
    test `refusal`, not the value. The values of a refused answer are 0; the axes
    of a refused build have the counts 0, and their numbers mean nothing.
 
-   With 31 and 32 came `has_index` and `index`, so axle_built and
-   axle_write_answer have another layout than before: compile programs that use
-   them again, with this header.
+   Since request C-14 axle_built and axle_write_answer have these two fields, and
+   so another layout: programs that use them are compiled again with this header.
 
    Every function accepts every value that its arguments' types have: nothing
    needs to be tested before a call. What a caller owes is memory: each pointer
@@ -54,8 +53,8 @@
      30 a lent buffer shorter than the file: the length needed
      31 a ratio that is not in its range: the number's offset; its index is 0
      32 a number of a sensor that is not in its range: the number's offset; its
-       index is 0 to 8, of N, w, z, c, k, s, p, d, R. The tag of the sensor's field
-       is the byte at place - 2 * index - 3 of the data */
+       index is 0 to 8, of N, w, z, c, k, s, p, d, R. Of a build, the tag of the
+       sensor's field is the byte at place - 2 * index - 3 of the data */
 #ifndef AXLE_H
 #define AXLE_H
 

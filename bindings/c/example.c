@@ -56,8 +56,11 @@ static int write_middle(const axle_built *map)
 static int run(size_t length)
 {
     axle_built map = axle_build(data, length, entries, AXLE_ENTRIES);
-    if (map.refusal != 0)
+    if (map.refusal != 0) {
+        if (map.has_index)
+            fprintf(stderr, "example: number %zu of its field, counted from 0\n", map.index);
         return refused(map.refusal, map.place);
+    }
     int status = write_listing(&map);
     return status != 0 ? status : write_middle(&map);
 }

@@ -36,7 +36,7 @@ int main(void)
     if (answer.refusal != 0) {
         fprintf(stderr, "write: refused %" PRIu32 " at %zu", answer.refusal, answer.place);
         if (answer.has_index)
-            fprintf(stderr, ", number %zu of its field", answer.index);
+            fprintf(stderr, ", number %zu of its field, counted from 0", answer.index);
         fputs("\n", stderr);
         return 1;
     }

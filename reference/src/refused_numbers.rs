@@ -65,7 +65,9 @@ impl RefusedNumbers {
 
 impl fmt::Display for RefusedNumbers {
     fn fmt(&self, f: &mut fmt::Formatter) -> fmt::Result {
-        for (group, indices) in self.groups() {
+        let mut groups = self.groups();
+        groups.retain(|(_, indices)| indices.iter().any(|count| *count > 0));
+        for (group, indices) in groups {
             let counts = indices.iter().enumerate();
             let counts: Vec<String> = counts.map(|(i, count)| format!("{i}: {count}")).collect();
             writeln!(f, "{group} by index: {}", counts.join(", "))?;

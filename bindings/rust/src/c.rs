@@ -27,8 +27,9 @@ pub struct Nearest {
     pub torque: u16,
 }
 
+/// The answer of a listing.
 #[repr(C)]
-pub struct Listing {
+pub struct Length {
     pub refusal: u32,
     pub place: usize,
     pub length: usize,
@@ -91,7 +92,7 @@ extern "C" {
         entry_count: usize,
         text: *mut u8,
         text_length: usize,
-    ) -> Listing;
+    ) -> Length;
     pub fn axle_write(
         numbers: Numbers,
         rows: *const u32,

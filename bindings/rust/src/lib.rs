@@ -52,7 +52,7 @@ fn answered<T>(refusal: u32, place: usize, index: Option<usize>, value: T) -> Re
 }
 
 /// An index as C tells it: whether there is one, and the index.
-fn told(has_index: u32, index: usize) -> Option<usize> {
+fn index_of(has_index: u32, index: usize) -> Option<usize> {
     match has_index {
         0 => None,
         _ => Some(index),
@@ -79,7 +79,7 @@ pub fn build(data: &[u8], entries: &mut [u32]) -> Result<Grid, Refusal> {
         torques: built.torques,
         torque_count: built.torque_count,
     };
-    let index = told(built.has_index, built.index);
+    let index = index_of(built.has_index, built.index);
     answered(built.refusal, built.place, index, grid)
 }
 

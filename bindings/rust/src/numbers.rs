@@ -1,6 +1,6 @@
 //! The numbers of component data, and the file that is made of them.
 
-use crate::{answered, c, told, Grid, Refusal, MAXIMUM_FILE_LENGTH};
+use crate::{answered, c, index_of, Grid, Refusal, MAXIMUM_FILE_LENGTH};
 
 /// A torque sensor, with document 01's letter of each number.
 #[derive(Clone, Copy, PartialEq, Eq, Debug, Default)]
@@ -147,7 +147,7 @@ impl Numbers {
                 file.len(),
             )
         };
-        let index = told(answer.has_index, answer.index);
+        let index = index_of(answer.has_index, answer.index);
         answered(answer.refusal, answer.place, index, answer.length)
     }
 }

@@ -14,6 +14,9 @@ pub struct Refusal {
     pub index: Option<usize>,
 }
 
+/// The refusal of a sensor's number.
+const SENSOR_OUT_OF_RANGE: u32 = 32;
+
 /// The numbers of a sensor in the order of the data.
 const SENSOR_NUMBERS: [&str; 9] = [
     "N, nominal torque",
@@ -68,14 +71,14 @@ impl Refusal {
             22 => "not the axes and entries of a map",
             30 => "too little room for the file",
             31 => "ratio out of range",
-            32 => "sensor number out of range",
+            SENSOR_OUT_OF_RANGE => "sensor number out of range",
             _ => return None,
         })
     }
 
     /// Which number of a sensor it was, and what it is called.
     fn sensor_number(&self) -> Option<(usize, &'static str)> {
-        let index = self.index.filter(|_| self.number == 32)?;
+        let index = self.index.filter(|_| self.number == SENSOR_OUT_OF_RANGE)?;
         Some((index, SENSOR_NUMBERS.get(index)?))
     }
 

@@ -200,7 +200,8 @@ fn hold_range(tag: u8, index: usize, width: usize, lowest: usize, highest: usize
         };
         let outside = out_of_range(tag, place, index);
         for inside in [lowest, highest] {
-            assert_ne!(answer(inside), outside, "tag {tag}: {inside}");
+            let refused_there = answer(inside).filter(|refusal| refusal.place == place);
+            assert_eq!(refused_there, None, "tag {tag}: {inside}");
         }
         assert_eq!(answer(highest + 1), outside, "tag {tag}");
         if lowest > 0 {

@@ -230,7 +230,10 @@ fn numbers_of_the_right_sensor() {
         let place = RIGHT_SENSOR + 3 + 2 * index;
         let answer = |number: u16| Map::build(&with_numbers(&[(place, number)]));
         for inside in [lowest, highest] {
-            assert_ne!(answer(inside), sensor_refused(place, index));
+            let refused_there = answer(inside)
+                .err()
+                .filter(|refusal| refusal.place == place);
+            assert_eq!(refused_there, None);
         }
         assert_eq!(answer(highest + 1), sensor_refused(place, index));
         if lowest > 0 {

@@ -453,7 +453,7 @@ const MENDED: [(u32, Mend); 20] = [
 fn the_order_of_the_tests() {
     let mut numbers = all_wrong();
     for (number, mend) in MENDED {
-        let index = matches!(number, 31 | 32).then(|| 0);
+        let index = matches!(number, 31 | 32).then_some(0);
         assert_refused_with(&numbers, number, index);
         mend(&mut numbers);
     }

@@ -23,7 +23,7 @@ use Rattle.map.proofs.Acceptance.{build_refused}
 
 -- ---- the refusals of a build
 
--- with a number from 1 to 12, and then it does not say which number of a field it was; with 31, of the ratio, which is number 0; or with 32, of one of a sensor's nine
+-- a refused build has a number from 1 to 12 and no index; or 31, of the ratio, which is number 0; or 32, of one of a sensor's nine numbers
 pub data OfBuild (t : Told) : Type 0 where
   without_index : 1 ≤ t.number → t.number ≤ 12 → t.index ≡ None → OfBuild t
   of_ratio : t.number ≡ 31 → t.index ≡ Some 0 → OfBuild t

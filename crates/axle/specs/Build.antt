@@ -26,7 +26,7 @@ BuiltOf (Err x) b =
     (b.refusal ≡ number x) × (b.has_index ≡ has_index (index x)) × (b.place ≡ place x) × (b.index ≡ index_or_zero (index x))
     × (b.speed_count ≡ 0) × (b.torque_count ≡ 0)
 
--- the number, the place and the index of the refusal, 0 where the build accepts
+-- the number and the place of the refusal, 0 where the build accepts; and its index, where it has one
 abbrev pub refusal_in : Outcome LossMap → ℕ
 refusal_in (accepted m) = 0
 refusal_in (refused t) = t.number

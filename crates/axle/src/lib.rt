@@ -21,8 +21,8 @@ use numbers::Numbers;
 use refusal::Refusal;
 use sensor::Sensor;
 
-// The number of a refusal in document 01's table and its place, as each answer for C holds them, and where it says which number
-// of its field it was, 1 and that number; 0 where nothing is refused, or nothing said.
+// The number of a refusal in document 01's table and its place, as each answer for C holds them; where it is of a number of a
+// field, 1 and that number's index, and else 0 and 0. All are 0 where nothing is refused.
 #[derive(Clone, Copy)]
 pub struct Status {
     pub refusal: u32,

@@ -99,7 +99,7 @@ component_of c = record {
   torques = counted_numbers c.grid.torques;
 }
 
--- what `read` promises for every byte sequence: which refusal with its number and place, or which numbers
+-- what `read` promises for every byte sequence: which refusal with its number, place and index, or which numbers
 pub record Reads (bytes : List ℕ) (r : Result Component Refusal) : Type 0 where
   pub outcome : outcome_as component_of r ≡ component bytes
   pub counts : IfOk r (λ c. CountsWithin c.grid)

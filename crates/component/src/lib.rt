@@ -118,8 +118,8 @@ struct Axle {
 fn read_axle(start: Cursor<'_>) -> Result<(Axle, Cursor<'_>), Refusal>
     ensures { RunOf start.entry axle_fields axle_of result }
 {
-    let kind = start.number(1, Width::One, KINDS, Outside::Number)?;
-    let line = kind.next.number(2, Width::One, LINES, Outside::Number)?;
+    let kind = start.number(1, Width::One, KINDS, Outside::KindOrLine)?;
+    let line = kind.next.number(2, Width::One, LINES, Outside::KindOrLine)?;
     let ratio = line.next.number(3, Width::Two, RATIOS, Outside::Ratio)?;
     let axle = Axle {
         // there is one, for the number is in its range

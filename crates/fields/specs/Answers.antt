@@ -10,7 +10,7 @@ use Rattle.fields.specs.declared.Allowed.TheVariants.{Exactly, Numbers}
 use Rattle.fields.specs.declared.Width.{Width}
 use Rattle.fields.specs.declared.Width.TheVariants.{One, Two}
 use Rattle.fields.specs.declared.Outside.{Outside}
-use Rattle.fields.specs.declared.Outside.TheVariants.{Number, Ratio}
+use Rattle.fields.specs.declared.Outside.TheVariants.{KindOrLine, Ratio}
 use Rattle.fields.specs.declared.Cursor.{Cursor}
 use Rattle.fields.specs.declared.Field.{Field as FieldRead}
 
@@ -26,7 +26,7 @@ number_bytes Two = 2
 
 -- how a number is refused that is not in its range
 abbrev pub outside_of : Outside → (place : ℕ) → Told
-outside_of Number = refusal 4
+outside_of KindOrLine = refusal 4
 outside_of Ratio = ratio_refusal
 
 -- a field with its body

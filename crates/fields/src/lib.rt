@@ -79,12 +79,12 @@ impl Width {
     }
 }
 
-// How a number that is not in its range is refused.
+// What a number is that may be outside its range, and so how it is refused.
 #[derive(Clone, Copy)]
 pub enum Outside {
-    // As a kind and a line are: 4.
-    Number,
-    // As the ratio is: 31.
+    // 4.
+    KindOrLine,
+    // 31.
     Ratio,
 }
 
@@ -93,7 +93,7 @@ impl Outside {
         ensures { told result ≡ outside_of self place }
     {
         match self {
-            Outside::Number => Refusal::OutOfRange(place),
+            Outside::KindOrLine => Refusal::OutOfRange(place),
             Outside::Ratio => Refusal::RatioOutOfRange(place),
         }
     }

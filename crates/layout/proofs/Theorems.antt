@@ -84,7 +84,7 @@ refused_with c more r h =
     let l : length (layout c) < length (layout c ++ more) = omega (arith, length-append (layout c) more) in
     rw (lt-leb _ _ l) at e
 
--- a fault is refused with its number and place
+-- a fault is refused with its number, place and index
 pub refused_only_then : RefusedOnlyThen
 refused_only_then bytes t f = fault_refused bytes t f
 

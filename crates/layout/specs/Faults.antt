@@ -40,7 +40,7 @@ pub data FieldFault (bytes : List ℕ) (at tag : ℕ) (allowed : ℕ → Bool) (
 
 -- ---- rows 4 to 6, 31 and 32, in a body whose first byte is at a place
 
--- the body is one number, which is not in its range; it is refused as such a number is at its place
+-- the body is one number, which is not in its range; the refusal is the one that this field has at this place: 4, or 31 for the ratio
 pub record NumberFault (range : Range) (refused_at : (place : ℕ) → Told) (body : List ℕ) (place : ℕ) (t : Told) : Type 0 where
   pub outside : InRange range (number_of body) → ⊥
   pub told : t ≡ refused_at place

@@ -1,4 +1,4 @@
--- A build is accepted exactly when no refusal applies: 1 to 6 and 12 as in the reading of the data, 11, and 7 to 10 said of each row.
+-- A build is accepted exactly when no refusal applies: 1 to 6, 12, 31 and 32 as in the reading of the data, 11, and 7 to 10 said of each row.
 use Rattle.std.specs.Prelude.{ℕ, ◌+◌, ◌≤◌, ◌<◌, ◌≡◌, List, length, get_or}
 use Rattle.refusal.specs.Outcome.{refusal, Told, accepted, refused}
 use Rattle.component.specs.Component.{Component, Kind, standard, measured}

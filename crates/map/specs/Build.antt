@@ -1,4 +1,4 @@
--- Document 01, "Refusals" and "Code places and language forms": the build of a map. The data is read to its end (1 to 6, 12), then 11 is tested, then the rows.
+-- Document 01, "Refusals" and "Code places and language forms": the build of a map. The data is read to its end (1 to 6, 12, 31, 32), then 11 is tested, then the rows.
 use Rattle.std.specs.Prelude.{ℕ, ◌+◌, ◌*◌, List, leb, length, get_or}
 use Rattle.refusal.specs.Outcome.{Outcome, accepted, refused, ◌>>=◌, require, placed, first_refusal}
 use Rattle.component.specs.Component.{Component, Rows, Kind, standard, measured, sensor_count, row_length, component}

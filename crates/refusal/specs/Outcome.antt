@@ -1,4 +1,4 @@
--- What comes of a call in document 01's terms: a value, or a refusal with its number and place. Steps are joined by `do`, so that the order of tests is the order of lines.
+-- What comes of a call in document 01's terms: a value, or a refusal with its number, its place and, where it is of a number of a field, that number's index. Steps are joined by `do`, so that the order of tests is the order of lines.
 use Rattle.std.specs.Prelude.{ℕ, zero, suc, Bool, if◌then◌else◌, Option, Some, None}
 
 -- a refusal as document 01 tells it, "Returned" and "Place given"; and where document 02, C-14, wants it, "which number of the field it was, from 0"

@@ -8,7 +8,7 @@ ghost use Rattle.refusal.specs.Table.{number, place, index, told};
 use std::fmt;
 
 // Each case holds the place that is given with it; those without one have place 0. (A struct of a kind and a place would let
-// these three have another.) Those of a ratio and of a sensor also give which number of the field it was, from 0.
+// these three have another.) The cases of a ratio and of a sensor also give which number of the field it was, from 0.
 #[derive(Clone, Copy)]
 pub enum Refusal {
     // 1: a head or a body that the end of the data cuts off. The head's offset.

@@ -56,7 +56,7 @@ fn write_whole(out: &mut impl Write, case: &Case) -> Result<(), Fault> {
 fn write_reading(out: &mut impl Write, data: &[u8]) -> io::Result<()> {
     match component::read(data) {
         Ok(component) => print::write_component(out, &component),
-        Err(refusal) => print::write_refusal(out, refusal),
+        Err(refusal) => print::write_refusal_with_index(out, refusal),
     }
 }
 
@@ -80,7 +80,7 @@ fn write_build(out: &mut impl Write, case: &Case) -> Result<(), Fault> {
             write_answers(out, case, &grid, &entries[..case.entries])
         }
         Err(refusal) => {
-            print::write_refusal(out, refusal)?;
+            print::write_refusal_with_index(out, refusal)?;
             write_kept(out, "entries", &entries, &LENT_ENTRIES, 0)?;
             Ok(())
         }
@@ -173,7 +173,7 @@ fn write_file(out: &mut impl Write, case: &Case) -> Result<(), Fault> {
             let written = &file[..length.min(file.len())];
             writeln!(out, "written {length}\n{}", Hexadecimal(written))?;
         }
-        Err(refusal) => print::write_refusal(out, refusal)?,
+        Err(refusal) => print::write_refusal_with_index(out, refusal)?,
     }
     write_kept(out, "file", &file, &LENT_BYTES, length.unwrap_or(0))?;
     Ok(())

@@ -31,7 +31,7 @@ impl fmt::Display for Hexadecimal<'_> {
 }
 
 // A refusal, and which number of its field it was where that is told.
-pub fn write_refusal(out: &mut impl Write, refusal: Refusal) -> io::Result<()> {
+pub fn write_refusal_with_index(out: &mut impl Write, refusal: Refusal) -> io::Result<()> {
     match refusal.index() {
         Some(index) => writeln!(out, "{refusal} number {index}"),
         None => writeln!(out, "{refusal}"),

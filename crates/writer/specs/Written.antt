@@ -1,4 +1,4 @@
--- Document 02, C-12: numbers written as component data into a lent buffer.
+-- Document 02, C-12 and C-14: numbers written as component data into a lent buffer.
 use Rattle.std.specs.Prelude.{ℕ, ◌≡◌, List, length, Result}
 use Rattle.refusal.specs.Outcome.{Outcome, ◌>>=◌, without_place}
 use Rattle.refusal.specs.Table.{outcome_of}
@@ -14,7 +14,7 @@ use Rattle.numbers.specs.declared.Numbers.{Numbers}
 abbrev pub file_of : Numbers → (row_torques : List ℕ) → List ℕ
 file_of g row_torques = layout (says g row_torques)
 
--- the length of the file, with so much room for it: "the reader's 3 to 10 in the reader's order with place 0", of which 7 to 10 are the build's tests of its rows, "then 30 if the buffer is shorter than the file, with the length needed"
+-- the length of the file, with so much room for it: "the reader's 3 to 10 in the reader's order with place 0", and 31 and 32 where 4 stood for the ratio and for a sensor's number; of these 7 to 10 are the build's tests of its rows, "then 30 if the buffer is shorter than the file, with the length needed"
 unfoldable pub written : Numbers → (row_torques : List ℕ) (room : ℕ) → Outcome ℕ
 written g row_torques room = do
   _ ← numbers_check g (length row_torques)

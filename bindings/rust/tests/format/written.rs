@@ -1,6 +1,7 @@
 //! What the page says of files that are made from numbers, held to the command `axle write`.
 
 use super::*;
+use axle::Numbers;
 use std::process::Command;
 
 fn text_named(name: &str) -> String {
@@ -53,6 +54,21 @@ fn with_lines(tried: &str) -> String {
     lines.iter().flat_map(|line| [*line, "\n"]).collect()
 }
 
+/// Which number of its field it was, from the command's words; of a ratio, whose words do not say
+/// it, from the library.
+fn index_of(words: &str) -> Option<usize> {
+    if words.starts_with("ratio ") {
+        let numbers = Numbers {
+            ratio: u16::MAX,
+            ..numbers_of(&measured())
+        };
+        return numbers.write().expect_err("refused").index;
+    }
+    let (_, words) = words.split_once(": number ")?;
+    let (index, _) = words.split_once(" from 0").expect("counted from 0");
+    Some(number(index))
+}
+
 /// What the command refuses, from its message.
 fn refusal_of_text(text: &str) -> Option<Refusal> {
     let name = PathBuf::from(env!("CARGO_TARGET_TMPDIR")).join("tried.numbers");
@@ -62,15 +78,9 @@ fn refusal_of_text(text: &str) -> Option<Refusal> {
     let message = String::from_utf8(output.stderr).expect("UTF-8");
     let refusal = message.strip_prefix("axle: refused ")?;
     let (refusal, words) = refusal.split_once(": ")?;
-    // Of a sensor the words say which number it was; a ratio is the only number of its field.
-    match words.split_once(": number ") {
-        Some((_, words)) => {
-            let (index, _) = words.split_once(" from 0").expect("counted from 0");
-            told(&format!("{}, number {}", refusal, index))
-        }
-        None if words.starts_with("ratio ") => told(&format!("{}, number 0", refusal)),
-        None => told(refusal),
-    }
+    let mut refusal = told(refusal)?;
+    refusal.index = index_of(words);
+    Some(refusal)
 }
 
 #[test]
