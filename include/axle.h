@@ -38,11 +38,10 @@
        cannot have (of axle_write: a count of axis numbers or of row torques that
        there cannot be): the head's offset
      4 a kind, a line or an axis number that is not in its range; 5 an axis number
-       that does not rise;
-       6 a first torque above the step to the second; 7 a measured torque (input,
-       output; of kind 3 input, left, right) above its sensor's nominal torque;
-       8 an output torque more than 5.00 Nm off its axis torque: the number's
-       offset, for 8 of kind 3 the left torque's
+       that does not rise; 6 a first torque above the step to the second; 7 a
+       measured torque (input, output; of kind 3 input, left, right) above its
+       sensor's nominal torque; 8 an output torque more than 5.00 Nm off its axis
+       torque: the number's offset, for 8 of kind 3 the left torque's
      9 a measured loss that is negative; 10 an entry above 10,000,000 hundredths
        of Nm: the row's offset
      11 fewer entries lent than the map has, or a lent buffer too short for a
