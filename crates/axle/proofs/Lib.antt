@@ -1,2 +1,3 @@
 -- The crate's own laws.
 pub mod Building
+pub mod Index
