@@ -34,6 +34,8 @@ pub enum Case {
     },
     /// Numbers written as component data into so many lent bytes.
     Write { numbers: HandedNumbers, room: usize },
+    /// The steps of a sensor's uncertainty, asked for its nine numbers and its torque in hundredths of Nm.
+    Steps { sensor: [u16; 9], torque: u32 },
 }
 
 impl Case {
@@ -44,6 +46,7 @@ impl Case {
             Case::Build { .. } => 'b',
             Case::Map { .. } => 'm',
             Case::Write { .. } => 'w',
+            Case::Steps { .. } => 's',
         }
     }
 
@@ -73,6 +76,7 @@ impl Case {
                 questions,
             } => (map.entries.len(), *room, map_bytes(map), questions),
             Case::Write { numbers, room } => (0, *room, handed_bytes(numbers), &[]),
+            Case::Steps { sensor, torque } => (0, 0, steps_bytes(sensor, *torque), &[]),
         };
         let mut bytes = vec![self.letter() as u8];
         bytes.extend((entries as u16).to_be_bytes());
@@ -115,6 +119,13 @@ fn handed_bytes(numbers: &HandedNumbers) -> Vec<u8> {
     for torque in &numbers.row_torques {
         bytes.extend(torque.to_be_bytes());
     }
+    bytes
+}
+
+/// The sensor's numbers, then the torque.
+fn steps_bytes(sensor: &[u16; 9], torque: u32) -> Vec<u8> {
+    let mut bytes = sensor.map(u16::to_be_bytes).concat();
+    bytes.extend(torque.to_be_bytes());
     bytes
 }
 

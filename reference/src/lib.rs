@@ -1,8 +1,8 @@
 //! Second implementation of document 01, "Axle loss maps", with requests C-11, two
 //! half-shaft sensors, C-12, writing component data, C-13, the newton metre of the
-//! allowance at the input, and C-14, which number was refused, of document 02;
-//! written from these papers alone. It renders the whole of them, for checks by
-//! running.
+//! allowance at the input, C-14, which number was refused, and C-15, the steps of a
+//! sensor's uncertainty, of document 02; written from these papers alone. It renders
+//! the whole of them, for checks by running.
 //! Beside it: traces of single numbers; a generator of component data and
 //! questions, and what it takes to compare the answers with those of the proved
 //! libraries; cases whose exact entries are printed; and the examples.
@@ -14,6 +14,7 @@ pub mod lookup;
 pub mod loss;
 pub mod map;
 pub mod refusal;
+pub mod steps;
 pub mod wide;
 pub mod writer;
 
@@ -38,6 +39,8 @@ pub mod random;
 pub mod refused_number_cases;
 pub mod refused_numbers;
 pub mod reply;
+pub mod steps_cases;
+pub mod steps_tally;
 pub mod stored;
 pub mod stored_files;
 pub mod valid;

@@ -83,6 +83,14 @@ pub struct SensorSteps {
     pub uncertainty: u128,
 }
 
+impl SensorSteps {
+    /// a, b, g, h and U.
+    pub fn in_order(&self) -> [u128; 5] {
+        let [a, b, g, h] = self.parts;
+        [a, b, g, h, self.uncertainty]
+    }
+}
+
 /// The steps of a sensor at a torque in hundredths of Nm.
 pub fn sensor_steps(sensor: &Sensor, torque: u32) -> SensorSteps {
     let unrounded = unrounded_parts(sensor, torque);

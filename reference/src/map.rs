@@ -91,7 +91,7 @@ fn test_row(row: &Row, measured: &Measured, axis_torque: u16, place: usize) -> R
 }
 
 /// Refusal 7.
-fn test_torque(torque: u32, sensor: &Sensor, place: usize) -> Result<(), Refusal> {
+pub(crate) fn test_torque(torque: u32, sensor: &Sensor, place: usize) -> Result<(), Refusal> {
     if torque > 100 * u32::from(sensor.nominal) {
         return Err(Refusal::at(7, place));
     }

@@ -21,9 +21,9 @@ fn source_of(seed: u64, number: u64) -> Source {
 
 /// The ratio or a number of a sensor: the tag of its field, and its index in the field.
 #[derive(Clone, Copy)]
-struct Place {
-    tag: u8,
-    index: usize,
+pub(crate) struct Place {
+    pub(crate) tag: u8,
+    pub(crate) index: usize,
 }
 
 const RATIO: Place = Place { tag: 3, index: 0 };
@@ -36,11 +36,21 @@ impl Place {
     }
 
     /// Just below the range where that can be, just above it, above it with the last byte of its end, and the highest of two bytes.
-    fn outside(self) -> Vec<u16> {
+    pub(crate) fn outside(self) -> Vec<u16> {
         let (lowest, highest) = self.range();
         let below = lowest.checked_sub(1);
         let above = [highest + 1, highest + 256, u16::MAX];
         below.into_iter().chain(above).collect()
+    }
+
+    /// Outside the range, just or anywhere.
+    pub(crate) fn chance_outside(self, source: &mut Source) -> u16 {
+        let (lowest, highest) = self.range();
+        match source.below(3) {
+            0 if lowest > 0 => source.below(lowest.into()) as u16,
+            1 => source.between(u64::from(highest) + 1, u16::MAX.into()) as u16,
+            _ => source.one_of(&self.outside()),
+        }
     }
 
     /// The data with this number here.
@@ -99,12 +109,7 @@ fn with_chance_number(source: &mut Source, data: &Data) -> Data {
     } else {
         source.one_of(&places)
     };
-    let (lowest, highest) = place.range();
-    let number = match source.below(3) {
-        0 if lowest > 0 => source.below(lowest.into()) as u16,
-        1 => source.between(u64::from(highest) + 1, u16::MAX.into()) as u16,
-        _ => source.one_of(&place.outside()),
-    };
+    let number = place.chance_outside(source);
     place.with(data, number)
 }
 

@@ -8,12 +8,18 @@ use std::fmt;
 const INDEXED: [(u8, usize); 2] = [(31, 1), (32, 9)];
 
 /// The letters of the cases that are refused so. What the map program writes has no index, but the refusal has.
-const LETTERS: [(char, &str); 4] = [
+const LETTERS: [(char, &str); 5] = [
     ('r', "data read"),
     ('p', "data for the map program"),
     ('b', "data built"),
     ('w', "writes"),
+    ('s', "steps"),
 ];
+
+/// Whether cases with a letter have a number that is refused so: steps have no ratio.
+fn occurs(letter: char, number: u8) -> bool {
+    letter != 's' || number == 32
+}
 
 /// How many cases were refused with an index.
 #[derive(Default)]
@@ -43,7 +49,8 @@ impl RefusedNumbers {
     fn groups(&self) -> Vec<(String, Vec<u64>)> {
         let mut groups = Vec::new();
         for (number, index_count) in INDEXED {
-            for (letter, cases) in LETTERS {
+            let letters = LETTERS.into_iter();
+            for (letter, cases) in letters.filter(|(letter, _)| occurs(*letter, number)) {
                 let count = |index| self.count(letter, number, index);
                 let name = format!("refusal {number} of {cases}");
                 groups.push((name, (0..index_count).map(count).collect()));

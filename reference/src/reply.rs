@@ -6,10 +6,13 @@ use crate::component::{self, Component, Kind};
 use crate::exact::{ExactMap, Verdict};
 use crate::listing::{listing, listing_of_data, report_of};
 use crate::lookup::{self, LentMap};
+use crate::loss::SensorSteps;
 use crate::map::{self, Map};
 use crate::questions::Question;
 use crate::refusal::Refusal;
 use crate::refused_numbers::RefusedNumbers;
+use crate::steps;
+use crate::steps_tally::StepsTally;
 use crate::writer::{self, HandedNumbers};
 use std::collections::{BTreeMap, BTreeSet};
 use std::fmt::Write;
@@ -71,7 +74,7 @@ impl Writes {
 #[derive(Default)]
 pub struct Seen {
     pub cases: BTreeMap<char, u64>,
-    /// Those of writes are apart.
+    /// Those of writes and of steps are apart.
     pub refusals: BTreeMap<u8, u64>,
     pub places: BTreeMap<u8, BTreeSet<usize>>,
     /// Maps built, by the number of their kind.
@@ -86,6 +89,7 @@ pub struct Seen {
     pub answers_below: Excess,
     pub writes: Writes,
     pub refused_numbers: RefusedNumbers,
+    pub steps: StepsTally,
 }
 
 impl Seen {
@@ -138,7 +142,27 @@ pub fn reply(case: &Case, seen: &mut Seen) -> Vec<u8> {
             questions,
         } => map_reply(map, *room, questions, None, seen),
         Case::Write { numbers, room } => write_reply(numbers, *room, seen).into_bytes(),
+        Case::Steps { sensor, torque } => steps_reply(*sensor, *torque, seen).into_bytes(),
     }
+}
+
+/// Nothing is lent, so no line says that it is kept.
+fn steps_reply(sensor: [u16; 9], torque: u32, seen: &mut Seen) -> String {
+    let answer = steps::checked_steps(sensor, torque);
+    seen.steps.add(sensor[0], torque, &answer);
+    match answer {
+        Ok(steps) => steps_line(&steps),
+        Err(refusal) => {
+            seen.refused_numbers.add('s', refusal);
+            refused_line(refusal)
+        }
+    }
+}
+
+/// The steps of a sensor's uncertainty in their order, as one line.
+pub fn steps_line(steps: &SensorSteps) -> String {
+    let [a, b, g, h, u] = steps.in_order();
+    format!("steps {a} {b} {g} {h} {u}\n")
 }
 
 /// The bytes past the file, or all of them where there is none, are kept as they were.

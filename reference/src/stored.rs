@@ -7,7 +7,7 @@ use crate::questions::Question;
 use crate::random::Source;
 use crate::reply::{reply, Excess, Seen, Writes};
 use crate::writer::HandedNumbers;
-use crate::{allowance_cases, refused_number_cases, valid, write_cases};
+use crate::{allowance_cases, refused_number_cases, steps_cases, valid, write_cases};
 use std::fmt;
 
 const SEED: u64 = 20_172_400;
@@ -15,9 +15,10 @@ const CASES_BY_CHANCE: u64 = 2_500;
 const WRITES_BY_CHANCE: u64 = 240;
 const ALLOWANCES_BY_CHANCE: u64 = 100;
 const REFUSED_NUMBERS_BY_CHANCE: u64 = 240;
+const STEPS_BY_CHANCE: u64 = 400;
 
-/// How many cases were written by hand before the requests C-12, C-13 and C-14.
-const WRITTEN_BY_HAND_BEFORE: [usize; 3] = [265, 315, 326];
+/// How many cases were written by hand before the requests C-12 to C-15.
+const WRITTEN_BY_HAND_BEFORE: [usize; 4] = [265, 315, 326, 372];
 
 /// Chosen among many: its data is accepted, no number of a sensor is 0, and most entries differ from each other.
 const MAP_PROGRAM_CASE: u64 = 8_283;
@@ -97,6 +98,14 @@ pub fn write_of(bytes: &[u8]) -> (usize, HandedNumbers) {
     (room, numbers)
 }
 
+/// The sensor's nine numbers and the torque of a case of steps: the 22 bytes of the body of their case.
+pub fn steps_of(bytes: &[u8]) -> ([u16; 9], u32) {
+    assert_eq!(bytes.len(), 22, "nine numbers and a torque");
+    let (numbers, torque) = bytes.split_at(18);
+    let sensor = std::array::from_fn(|index| number_of(&numbers[2 * index..][..2]) as u16);
+    (sensor, number_of(torque) as u32)
+}
+
 fn hand_case((letter, bytes): (char, Vec<u8>)) -> Case {
     match letter {
         'r' => Case::Read(bytes),
@@ -104,6 +113,10 @@ fn hand_case((letter, bytes): (char, Vec<u8>)) -> Case {
         'w' => {
             let (room, numbers) = write_of(&bytes);
             Case::Write { numbers, room }
+        }
+        's' => {
+            let (sensor, torque) = steps_of(&bytes);
+            Case::Steps { sensor, torque }
         }
         _ => {
             let (question, data) = question_of(&bytes);
@@ -117,10 +130,12 @@ fn hand_case((letter, bytes): (char, Vec<u8>)) -> Case {
     }
 }
 
-/// All stored cases, in their order. Those of a later request are behind all others, which thereby stay as they were before it: the writes of C-12, then the allowances of C-13, then the refused numbers of C-14.
+/// All stored cases, in their order. Those of a later request are behind all others, which thereby stay as they were before it: the writes of C-12, then the allowances of C-13, then the refused numbers of C-14, then the steps of C-15.
 pub fn stored_cases() -> Vec<Case> {
     let mut cases: Vec<Case> = written_by_hand().into_iter().map(hand_case).collect();
-    let [before_writes, before_allowances, before_refused_numbers] = WRITTEN_BY_HAND_BEFORE;
+    let [before_writes, before_allowances, before_refused_numbers, before_steps] =
+        WRITTEN_BY_HAND_BEFORE;
+    let steps = cases.split_off(before_steps);
     let refused_numbers = cases.split_off(before_refused_numbers);
     let allowances = cases.split_off(before_allowances);
     let writes = cases.split_off(before_writes);
@@ -138,6 +153,9 @@ pub fn stored_cases() -> Vec<Case> {
     cases.extend(refused_number_cases::systematic(SEED));
     let refused_number = |number| refused_number_cases::by_chance(SEED, number);
     cases.extend((0..REFUSED_NUMBERS_BY_CHANCE).map(refused_number));
+    cases.extend(steps);
+    cases.extend(steps_cases::systematic(SEED));
+    cases.extend((0..STEPS_BY_CHANCE).map(|number| steps_cases::by_chance(SEED, number)));
     cases
 }
 
@@ -189,6 +207,7 @@ pub fn missing(seen: &Seen) -> Vec<String> {
     }
     counts.extend(seen.allowances.counts());
     counts.extend(seen.refused_numbers.counts());
+    counts.extend(seen.steps.counts());
     let too_few = counts.iter().filter(|(_, count)| *count < 20);
     missing.extend(too_few.map(|(name, count)| format!("{name}: {count}")));
     missing
@@ -242,6 +261,7 @@ impl fmt::Display for Seen {
             ('b', "data built"),
             ('m', "maps lent"),
             ('w', "numbers handed to the writer"),
+            ('s', "sensors asked for their steps"),
         ] {
             if let Some(count) = self.cases.get(&letter) {
                 writeln!(f, "{name}: {count}")?;
@@ -264,6 +284,7 @@ impl fmt::Display for Seen {
             writeln!(f, "refusal {number}: {count} at {places} places")?;
         }
         self.writes.fmt(f)?;
+        self.steps.fmt(f)?;
         self.refused_numbers.fmt(f)?;
         excess_line(f, "entries", &self.entries)?;
         excess_line(f, "answers from the first torque upwards", &self.answers)?;

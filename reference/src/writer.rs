@@ -214,7 +214,7 @@ fn tested_axis<'axis>(axis: &'axis Axis, rule: &AxisRule) -> Result<&'axis [u16]
 }
 
 /// Refusal 32 of a sensor's numbers, from left to right.
-fn tested_sensor(numbers: [u16; 9]) -> Result<Sensor, Refusal> {
+pub(crate) fn tested_sensor(numbers: [u16; 9]) -> Result<Sensor, Refusal> {
     Sensor::of(numbers).map_err(|index| Refusal::at_index(32, 0, index))
 }
 

@@ -1,12 +1,13 @@
-//! cases/cases.txt against cases/answers.txt, which a third program reckoned in exact fractions, with the allowance of request C-13; those of kind 3, of the writer, of that request and of request C-14, the last ones, were reckoned by hand, but for the last one of C-13.
+//! cases/cases.txt against cases/answers.txt, which a third program reckoned in exact fractions, with the allowance of request C-13; those of kind 3, of the writer, of that request and of requests C-14 and C-15, the last ones, were reckoned by hand, but for the last one of C-13.
 
 use reference::component;
 use reference::listing::report;
 use reference::lookup::{loss, nearest, LentMap};
 use reference::map;
 use reference::refusal::Refusal;
-use reference::reply::{component_line, written_lines};
-use reference::stored::{question_of, write_of, written_by_hand};
+use reference::reply::{component_line, steps_line, written_lines};
+use reference::steps::checked_steps;
+use reference::stored::{question_of, steps_of, write_of, written_by_hand};
 use reference::writer;
 
 fn refused(refusal: Refusal) -> String {
@@ -40,6 +41,11 @@ fn write_answer(bytes: &[u8]) -> String {
     }
 }
 
+fn steps_answer(bytes: &[u8]) -> String {
+    let (sensor, torque) = steps_of(bytes);
+    checked_steps(sensor, torque).map_or_else(refused, |steps| steps_line(&steps))
+}
+
 fn answer((letter, bytes): (char, Vec<u8>)) -> String {
     match letter {
         'r' => match component::read(&bytes) {
@@ -48,6 +54,7 @@ fn answer((letter, bytes): (char, Vec<u8>)) -> String {
         },
         'm' => String::from_utf8(report(&bytes)).expect("a report is ASCII"),
         'w' => write_answer(&bytes),
+        's' => steps_answer(&bytes),
         _ => question_answer(&bytes),
     }
 }
@@ -55,7 +62,7 @@ fn answer((letter, bytes): (char, Vec<u8>)) -> String {
 #[test]
 fn answers_are_those_of_the_third_program_and_of_the_hand() {
     let cases = written_by_hand();
-    assert_eq!(cases.len(), 178 + 87 + 50 + 11 + 46);
+    assert_eq!(cases.len(), 178 + 87 + 50 + 11 + 46 + 111);
     let answers: String = cases.into_iter().map(answer).collect();
     assert_eq!(answers, include_str!("../cases/answers.txt"));
 }

@@ -1,4 +1,4 @@
-//! Document 01's worked cases and boundaries, and those of requests C-11 to C-14, over the public interface.
+//! Document 01's worked cases and boundaries, and those of requests C-11 to C-15, over the public interface.
 
 mod exactness;
 mod half_shafts;
@@ -6,6 +6,7 @@ mod queries;
 mod reckoned;
 mod refusals;
 mod refused_numbers;
+mod steps;
 mod support;
 mod traces;
 mod writing;
