@@ -5,20 +5,21 @@
 
    Units. On an axis a speed is in whole rpm and a torque in whole Nm, both at
    the wheel. Entries, losses and measured torques: hundredths of Nm. A question's
-   speed: tenths of rpm; its torque: hundredths of Nm.
+   speed: tenths of rpm; its torque: hundredths of Nm. Uncertainties: grains, of
+   which 100 make a hundredth of Nm.
 
    Component data says its kind: 1 standard, 2 measured with one sensor at the
    output, 3 measured with one on each half-shaft, left and right, whose torques
    together are the output torque. Every call takes all three alike. No accepted
    data is longer than 24,853 bytes. docs/FORMAT.md has each kind byte by byte.
 
-   Answers. `refusal` is 0 where the call is answered, else the number of the
-   refusal (below), and `place` its place. Of a build and of a write, `has_index`
-   is 1 where the refusal also says which number of its field it was, and `index`
-   is that number, from 0; else both are 0. Test `has_index`: index 0 is the first
-   number of a field. Values stand apart from them, and a loss may be negative:
-   test `refusal`, not the value. The values of a refused answer are 0; the axes
-   of a refused build have the counts 0, and their numbers mean nothing.
+   Answers. `refusal` is 0 where the call is answered, else the number of the refusal
+   (below), and `place` its place. Of a build, of a write and of the steps of a
+   sensor, `has_index` is 1 where the refusal also says which number of its field it
+   was, and `index` is that number, from 0; else both are 0. Test `has_index`: index
+   0 is the first number of a field. Values stand apart from them, and a loss may be
+   negative: test `refusal`, not the value. The values of a refused answer are 0; the
+   axes of a refused build have the counts 0, and their numbers mean nothing.
 
    Since request C-14 axle_built and axle_write_answer have these two fields, and
    so another layout: programs that use them are compiled again with this header.
@@ -31,8 +32,8 @@
    buffer; the library keeps no pointer after a call, allocates nothing, and has
    no state, so calls may run at the same time.
 
-   Refusals, by number, with their place. Numbers that axle_write refuses stand
-   at no offset: its 3 to 10, 31 and 32 have place 0.
+   Refusals, by number, with their place. Numbers that axle_write or axle_steps
+   refuses stand at no offset: their 3 to 10, 31 and 32 have place 0.
      1 a head or a body that the end of the data cuts off; 2 another tag than the
        one due, or data that ends before the field; 3 a length that the field
        cannot have (of axle_write: a count of axis numbers or of row torques that
@@ -109,6 +110,19 @@ typedef struct {
     size_t length; /* bytes written */
 } axle_write_answer;
 
+/* Uncertainties, in grains. */
+typedef struct {
+    uint32_t refusal;
+    uint32_t has_index;
+    size_t place;
+    size_t index;
+    uint64_t temperature_on_sensitivity; /* a */
+    uint64_t temperature_on_zero;        /* b */
+    uint64_t calibration;                /* g */
+    uint64_t parasitic_loads;            /* h */
+    uint64_t uncertainty;                /* U, of the sensor: the root over the four */
+} axle_steps_answer;
+
 /* The numbers of component data, but for its rows. A sensor's nine numbers are
    N, w, z, c, k, s, p, d, R in the order of the data; docs/FORMAT.md has their
    meanings and ranges. */
@@ -169,6 +183,14 @@ axle_listing_answer axle_listing(const uint16_t speeds[32], size_t speed_count,
 axle_write_answer axle_write(axle_numbers numbers,
                              const uint32_t *rows, size_t row_torque_count,
                              uint8_t *file, size_t file_length);
+
+/* The steps of a sensor's uncertainty, in grains, at a torque that it measured (in
+   hundredths of Nm): the four parts in the order of the annex, then the root over
+   them, each rounded up. A build takes U of each sensor of each row from them. The
+   sensor's nine numbers are N, w, z, c, k, s, p, d, R. Refusals, in this order and
+   both with place 0: a number out of its range 32, with its index; a torque above
+   100 * N 7. */
+axle_steps_answer axle_steps(const uint16_t sensor[9], uint32_t torque);
 
 #ifdef __cplusplus
 }

@@ -74,6 +74,7 @@ pub fn answer(case: &Case, lent: &mut Lent) -> Vec<u8> {
             &mut lent.bytes,
         ),
         Case::Write { numbers, room } => write_answer(numbers, *room, &mut lent.bytes).into_bytes(),
+        Case::Steps { sensor, torque } => steps_answer(*sensor, *torque).into_bytes(),
         Case::Read(data) | Case::Program(data) => build_answer(data, 2_048, 65_536, &[], lent),
     }
 }
@@ -151,6 +152,16 @@ fn write_answer(numbers: &HandedNumbers, room: usize, bytes: &mut [u8]) -> Strin
 fn write(handed: &HandedNumbers, file: &mut [u8]) -> Result<usize, Refusal> {
     let (numbers, grid) = numbers_of(handed);
     numbers.write_on_grid(&grid, file)
+}
+
+fn steps_answer(sensor: [u16; 9], torque: u32) -> String {
+    match Sensor::from(sensor).steps(torque) {
+        Ok(steps) => {
+            let [a, b, g, h, u] = steps.in_order();
+            format!("steps {a} {b} {g} {h} {u}\n")
+        }
+        Err(refusal) => refused(refusal),
+    }
 }
 
 /// The places of an axis in an array.

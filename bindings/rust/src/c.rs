@@ -45,6 +45,19 @@ pub struct Written {
 }
 
 #[repr(C)]
+pub struct Steps {
+    pub refusal: u32,
+    pub has_index: u32,
+    pub place: usize,
+    pub index: usize,
+    pub temperature_on_sensitivity: u64,
+    pub temperature_on_zero: u64,
+    pub calibration: u64,
+    pub parasitic_loads: u64,
+    pub uncertainty: u64,
+}
+
+#[repr(C)]
 pub struct Numbers {
     pub kind: u16,
     pub line: u16,
@@ -100,4 +113,5 @@ extern "C" {
         file: *mut u8,
         file_length: usize,
     ) -> Written;
+    pub fn axle_steps(sensor: *const u16, torque: u32) -> Steps;
 }

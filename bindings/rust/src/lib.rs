@@ -7,7 +7,8 @@
 //!
 //! Component data is of kind 1 (standard), 2 (measured with one sensor at the output) or 3
 //! (measured with one on each half-shaft, left and right). Every call takes all three alike;
-//! `docs/FORMAT.md` has them byte by byte. `Numbers` makes such data.
+//! `docs/FORMAT.md` has them byte by byte. `Numbers` makes such data, and `Sensor::steps` answers
+//! the steps of one sensor's uncertainty.
 //!
 //! ```
 //! let data = [
@@ -22,10 +23,12 @@ mod c;
 mod grid;
 mod numbers;
 mod refusal;
+mod steps;
 
 pub use grid::Grid;
 pub use numbers::{Numbers, Sensor};
 pub use refusal::Refusal;
+pub use steps::Steps;
 
 /// No map has more entries.
 pub const MAXIMUM_ENTRIES: usize = 2_048;

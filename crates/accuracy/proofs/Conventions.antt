@@ -8,10 +8,10 @@ use lib.ListN.{length, get_or}
 use Rattle.grid.proofs.Map.{map_facts}
 use native.Mathlib.Nat.{le_of_eq}
 use Rattle.component.specs.Component.{Component, Kind, standard, measured, sensor_count, kind_number, row_length}
-use Rattle.sensor.specs.Sensor.{SensorRules}
+use Rattle.sensor.specs.Sensor.{SensorRules, AllSensorRules}
 use Rattle.sensor.specs.declared.Sensor.{Sensor}
 use Rattle.layout.specs.Layout.{field_bytes, layout}
-use Rattle.layout.specs.Rules.{AreBytes, AllSensorRules, KindRules}
+use Rattle.layout.specs.Rules.{AreBytes, KindRules}
 use Rattle.layout.proofs.Theorems.{sound}
 use Rattle.rows.proofs.RowSensors.{sensors_kept}
 use Rattle.rows.proofs.RowParts.{row_ends}

@@ -1,3 +1,4 @@
 -- The crate's own laws.
 pub mod Building
 pub mod Index
+pub mod SensorSteps

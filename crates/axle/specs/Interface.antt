@@ -4,6 +4,7 @@ use Rattle.refusal.specs.Outcome.{Outcome, accepted, refused}
 use Rattle.refusal.specs.Table.{number, place, index}
 use Rattle.refusal.specs.declared.Refusal.{Refusal}
 use Rattle.lookup.specs.declared.GridPoint.{GridPoint}
+use Rattle.loss.specs.declared.Steps.{Steps}
 use Rattle.grid.specs.Parts.{grid_of}
 use Rattle.sensor.specs.Sensor.{sensor_of}
 use Rattle.numbers.specs.declared.Numbers.{Numbers}
@@ -12,6 +13,7 @@ use Rattle.axle.specs.declared.AxleLoss.{AxleLoss}
 use Rattle.axle.specs.declared.AxleNearest.{AxleNearest}
 use Rattle.axle.specs.declared.AxleLength.{AxleLength}
 use Rattle.axle.specs.declared.AxleWritten.{AxleWritten}
+use Rattle.axle.specs.declared.AxleSteps.{AxleSteps}
 use Rattle.axle.specs.declared.AxleNumbers.{AxleNumbers}
 
 -- whether an index is told, 1 or 0
@@ -45,6 +47,27 @@ length_of (refused t) = record { refusal = t.number; place = t.place; length = 0
 abbrev pub written_of : Outcome ℕ → AxleWritten
 written_of (accepted n) = record { refusal = 0; has_index = 0; place = 0; index = 0; length = n }
 written_of (refused t) = record { refusal = t.number; has_index = has_index t.index; place = t.place; index = index_or_zero t.index; length = 0 }
+
+-- the steps of a sensor
+abbrev with_steps : (refusal has_index place index : ℕ) → Steps → AxleSteps
+with_steps refusal has_index place index steps = record {
+  refusal = refusal;
+  has_index = has_index;
+  place = place;
+  index = index;
+  temperature_on_sensitivity = steps.temperature_on_sensitivity;
+  temperature_on_zero = steps.temperature_on_zero;
+  calibration = steps.calibration;
+  parasitic_loads = steps.parasitic_loads;
+  uncertainty = steps.uncertainty;
+}
+
+abbrev no_steps : Steps
+no_steps = record { temperature_on_sensitivity = 0; temperature_on_zero = 0; calibration = 0; parasitic_loads = 0; uncertainty = 0 }
+
+abbrev pub steps_of : Outcome Steps → AxleSteps
+steps_of (accepted steps) = with_steps 0 0 0 0 steps
+steps_of (refused t) = with_steps t.number (has_index t.index) t.place (index_or_zero t.index) no_steps
 
 -- numbers that C hands over
 abbrev pub numbers_in : AxleNumbers → Numbers

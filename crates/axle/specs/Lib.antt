@@ -1,3 +1,4 @@
 -- What the contracts of this crate cite.
 pub mod Interface
 pub mod Build
+pub mod Steps

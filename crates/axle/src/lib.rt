@@ -11,12 +11,14 @@ ghost use Rattle.lookup.specs.Nearest.{nearest_answer};
 ghost use Rattle.listing.specs.Listing.{listing, listed};
 ghost use Rattle.buffer.specs.Written.{content_of};
 ghost use Rattle.writer.specs.Written.{written, file_after};
-ghost use Rattle.axle.specs.Interface.{status_of, loss_of, nearest_of, length_of, written_of, numbers_in};
+ghost use Rattle.axle.specs.Interface.{status_of, loss_of, nearest_of, length_of, written_of, steps_of, numbers_in};
 ghost use Rattle.axle.specs.Build.{BuiltOf, BuildsForC};
+ghost use Rattle.axle.specs.Steps.{StepsForC};
 
 use cell::Point;
 use grid::{Axis, Grid};
 use lookup::GridPoint;
+use loss::Steps;
 use numbers::Numbers;
 use refusal::Refusal;
 use sensor::Sensor;
@@ -82,6 +84,21 @@ pub struct AxleWritten {
     pub place: usize,
     pub index: usize,
     pub length: usize,
+}
+
+// The steps of a sensor's uncertainty in grains, all 0 where the call is refused.
+#[repr(C)]
+#[derive(Clone, Copy)]
+pub struct AxleSteps {
+    pub refusal: u32,
+    pub has_index: u32,
+    pub place: usize,
+    pub index: usize,
+    pub temperature_on_sensitivity: u64,
+    pub temperature_on_zero: u64,
+    pub calibration: u64,
+    pub parasitic_loads: u64,
+    pub uncertainty: u64,
 }
 
 // The numbers of component data but for its rows, plain ones, as C hands them over. A sensor's nine numbers are in the order of the data; of kind 3 output is the left one.
@@ -197,6 +214,26 @@ impl From<Result<usize, Refusal>> for AxleWritten {
     }
 }
 
+impl From<Result<Steps, Refusal>> for AxleSteps {
+    ghost from_gives = { λ answer steps. steps ≡ steps_of (outcome_of answer) };
+
+    fn from(answer: Result<Steps, Refusal>) -> AxleSteps {
+        let status = status_of(&answer);
+        let steps = answer.unwrap_or_default();
+        AxleSteps {
+            refusal: status.refusal,
+            has_index: status.has_index,
+            place: status.place,
+            index: status.index,
+            temperature_on_sensitivity: steps.temperature_on_sensitivity,
+            temperature_on_zero: steps.temperature_on_zero,
+            calibration: steps.calibration,
+            parasitic_loads: steps.parasitic_loads,
+            uncertainty: u64::from(steps.uncertainty),
+        }
+    }
+}
+
 // The axes that C lends.
 fn grid_of(speeds: &[u16; 32], speed_count: usize, torques: &[u16; 64], torque_count: usize) -> Grid
     ensures { result ≡ grid_of speeds.now speed_count torques.now torque_count }
@@ -306,4 +343,11 @@ pub fn axle_write(numbers: AxleNumbers, rows: &[u32], file: &mut [u8]) -> AxleWr
 {
     let numbers = Numbers::from(numbers);
     writer::write(&numbers, rows, file).into()
+}
+
+// The steps of a sensor's uncertainty, of its nine numbers in the order of the data and a torque in hundredths of Nm.
+pub fn axle_steps(sensor: &[u16; 9], torque: u32) -> AxleSteps
+    ensures { StepsForC sensor.now torque result }
+{
+    loss::sensor_steps(Sensor::from(*sensor), torque).into()
 }

@@ -11,8 +11,9 @@ ghost use Rattle.buffer.specs.Written.{content_of};
 ghost use Rattle.writer.specs.Written.{written, file_after};
 ghost use Rattle.axle.specs.Interface.{loss_of, nearest_of, length_of, written_of, numbers_in};
 ghost use Rattle.axle.specs.Build.{BuildsForC};
+ghost use Rattle.axle.specs.Steps.{StepsForC};
 
-use axle::{AxleBuilt, AxleLength, AxleLoss, AxleNearest, AxleNumbers, AxleWritten};
+use axle::{AxleBuilt, AxleLength, AxleLoss, AxleNearest, AxleNumbers, AxleSteps, AxleWritten};
 
 // Builds the map of component data: its axes in the answer, its entries in the lent slice.
 #[unsafe(no_mangle)]
@@ -95,4 +96,12 @@ pub extern "C" fn axle_write(numbers: AxleNumbers, rows: &[u32], file: &mut [u8]
     ensures file_after { file.new ≡ file_after (numbers_in numbers) rows.now file.old }
 {
     axle::axle_write(numbers, rows, file)
+}
+
+// The steps of a sensor's uncertainty, of its nine numbers in the order of the data and a torque in hundredths of Nm.
+#[unsafe(no_mangle)]
+pub extern "C" fn axle_steps(sensor: &[u16; 9], torque: u32) -> AxleSteps
+    ensures { StepsForC sensor.now torque result }
+{
+    axle::axle_steps(sensor, torque)
 }

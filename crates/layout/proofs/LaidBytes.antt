@@ -10,10 +10,10 @@ use lib.ListN.{length, get_or}
 use Rattle.grid.specs.Axis.{◌to◌}
 use Rattle.grid.specs.Rules.{InRange, AxisRules}
 use Rattle.component.specs.Component.{Component, Kind, standard, measured, sensor_count, kind_number, output_tags, sensor_tags, rows_tag}
-use Rattle.sensor.specs.Sensor.{SensorRules, sensor_numbers}
+use Rattle.sensor.specs.Sensor.{SensorRules, AllSensorRules, sensor_numbers}
 use Rattle.sensor.specs.declared.Sensor.{Sensor}
 use Rattle.layout.specs.Layout.{two_bytes, four_bytes, encoded, number_bytes, torque_bytes, field_bytes, sensor_bytes, measured_bytes, layout}
-use Rattle.layout.specs.Rules.{AreBytes, FitFourBytes, AllSensorRules, AllBelow, KindRules, Rules}
+use Rattle.layout.specs.Rules.{AreBytes, FitFourBytes, AllBelow, KindRules, Rules}
 use Rattle.layout.proofs.FieldBytes.{length_number_bytes}
 
 -- ---- bytes one after another, said of each in turn

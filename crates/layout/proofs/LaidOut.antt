@@ -14,8 +14,8 @@ use Rattle.fields.specs.Field.{exactly, numbers}
 use Rattle.component.specs.Component.{Kind, measured, Rows, sensor_count, sensor_tags, rows_tag, row_length}
 use Rattle.sensor.specs.declared.Sensor.{Sensor}
 use Rattle.layout.specs.Layout.{two_bytes, number_bytes, field_bytes, sensor_bytes, measured_bytes}
-use Rattle.layout.specs.Rules.{AllSensorRules, sensors_start, rows_head, Rules}
-use Rattle.sensor.specs.Sensor.{sensor_numbers}
+use Rattle.layout.specs.Rules.{sensors_start, rows_head, Rules}
+use Rattle.sensor.specs.Sensor.{AllSensorRules, sensor_numbers}
 use Rattle.layout.specs.Faults.{Stands}
 use Rattle.layout.specs.Acceptance.{AxleStands, SpeedsStand, TorquesStand, SensorsStand, AxesStand, rows_end}
 use Rattle.layout.proofs.FieldBytes.{length_number_bytes, length_field_bytes, from_field, field_stands, after_field}

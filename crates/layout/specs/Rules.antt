@@ -1,9 +1,9 @@
 -- Document 01, "Component data", and document 02, C-11: the ranges, orders and counts that the numbers keep, said of each number by its index.
-use Rattle.std.specs.Prelude.{ℕ, ◌+◌, ◌*◌, ◌≤◌, ◌<◌, ◌≡◌, List, [], ◌∷◌, length, get_or}
+use Rattle.std.specs.Prelude.{ℕ, ◌+◌, ◌*◌, ◌≤◌, ◌<◌, ◌≡◌, List, ◌∷◌, length, get_or}
 use Rattle.grid.specs.Axis.{◌to◌}
 use Rattle.grid.specs.Rules.{InRange, AxisRules, FirstStep}
 use Rattle.component.specs.Component.{Component, Rows, Kind, standard, measured, sensor_count, row_length}
-use Rattle.sensor.specs.Sensor.{SensorRules}
+use Rattle.sensor.specs.Sensor.{AllSensorRules}
 use Rattle.sensor.specs.declared.Sensor.{Sensor}
 
 -- every number is below a limit
@@ -16,11 +16,6 @@ AreBytes bytes = AllBelow 256 bytes
 
 abbrev pub FitFourBytes : List ℕ → Type 0
 FitFourBytes numbers = AllBelow 4294967296 numbers
-
--- every sensor keeps its rules
-abbrev pub AllSensorRules : List Sensor → Type 0
-AllSensorRules [] = Unit {0}
-AllSensorRules (sensor ∷ sensors) = SensorRules sensor × AllSensorRules sensors
 
 -- where the sensors start: after the heads and numbers of tags 1 to 5
 abbrev pub sensors_start : (speeds torques : ℕ) → ℕ

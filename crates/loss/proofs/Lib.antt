@@ -3,6 +3,7 @@ pub mod Rounding
 pub mod Values
 pub mod Lines
 pub mod Parts
+pub mod SensorSteps
 pub mod Roots
 pub mod Readings
 pub mod Rows

@@ -1,4 +1,4 @@
--- A sensor's parts and its uncertainty: the law of U, their bounds, and the steps as the code makes them. Assumes nothing.
+-- A sensor's parts and its uncertainty: the law of U, and their bounds. Assumes nothing.
 use Prim.Native.Nat.{ℕ, ◌*◌, ◌≤◌, ◌<◌}
 use mathlib.Core.Path.{◌≡◌, refl, sym, subst, ◌∙◌}
 use native.Mathlib.Omega.{arith}
@@ -13,9 +13,7 @@ use Rattle.arith.proofs.Squares.{square_at_most}
 use Rattle.arith.proofs.Roots.{root_up_law}
 use Rattle.sensor.specs.Sensor.{SensorRules}
 use Rattle.sensor.specs.declared.Sensor.{Sensor}
-use Rattle.loss.specs.declared.PreparedSensor.{PreparedSensor}
-use Rattle.loss.specs.declared.Steps.{Steps}
-use Rattle.loss.specs.Measured.{grains_up, temperature_on_sensitivity, temperature_on_zero, calibration, parasitic_loads, fixed_parts, sensor_uncertainty, uncertainty_law, sensor_steps, scaled_uncertainty, sum_of_squares}
+use Rattle.loss.specs.Measured.{grains_up, temperature_on_sensitivity, temperature_on_zero, calibration, parasitic_loads, sensor_uncertainty, uncertainty_law, sensor_steps, scaled_uncertainty, sum_of_squares}
 
 -- ---- U
 
@@ -54,18 +52,12 @@ module _ {sensor : Sensor} (rules : SensorRules sensor) where
   unfolding sensor_steps
   steps_at_most h = uncertainty_at_most (sensitivity_at_most h) zero_at_most calibration_at_most parasitic_at_most
 
--- ---- the steps, from the fixed parts
-
-pub steps_made : (p : PreparedSensor) (C a u : ℕ) → a ≡ grains_up (temperature_on_sensitivity p.sensor C) → u ≡ sensor_uncertainty a p.fixed.zero p.fixed.calibration p.fixed.parasitic →
-    ◌≡◌ {A = Steps} (record { sensitivity = a; zero = p.fixed.zero; calibration = p.fixed.calibration; parasitic = p.fixed.parasitic; uncertainty = u }) (sensor_steps p.sensor C)
-unfolding fixed_parts sensor_steps
-steps_made p C a u e f = let own = p.own in cc
-
 -- ---- scaled by a factor, and summed
 
-pub scaled_at_most : {factor U : ℕ} → factor ≤ 20000 → U ≤ 43000000 → scaled_uncertainty factor U ≤ 860000000
+-- by a factor of at most so many times 1,000
+pub scaled_at_most : {factor U : ℕ} (times : ℕ) → factor ≤ 1000 * times → U ≤ 43000000 → scaled_uncertainty factor U ≤ 43000000 * times
 unfolding scaled_uncertainty
-scaled_at_most {factor} {U} h k = quotient_at_most (U * factor) 1000 860000000 (omega arith) (omega (arith, mul-le-mul h k))
+scaled_at_most {factor} {U} times h k = quotient_at_most (U * factor) 1000 (43000000 * times) (omega arith) (omega (arith, mul-le-mul h k))
 
 -- with the factor 1,000 it is U itself
 pub scaled_by_one : (U : ℕ) → scaled_uncertainty 1000 U ≡ U

@@ -2,5 +2,6 @@
 pub mod Rounding
 pub mod Standard
 pub mod Measured
+pub mod SensorSteps
 pub mod Exact
 pub mod ExactCases

@@ -62,9 +62,9 @@ parasitic_loads sensor =
 -- what does not depend on the torque
 unfoldable pub fixed_parts : Sensor → FixedParts
 fixed_parts sensor = record {
-  zero = grains_up (temperature_on_zero sensor);
+  temperature_on_zero = grains_up (temperature_on_zero sensor);
   calibration = grains_up (calibration sensor);
-  parasitic = grains_up (parasitic_loads sensor);
+  parasitic_loads = grains_up (parasitic_loads sensor);
 }
 
 -- what 3 × U × U must reach
@@ -101,7 +101,7 @@ sensor_steps sensor C =
     let b = grains_up (temperature_on_zero sensor) in
     let g = grains_up (calibration sensor) in
     let h = grains_up (parasitic_loads sensor) in
-    record { sensitivity = a; zero = b; calibration = g; parasitic = h; uncertainty = sensor_uncertainty a b g h }
+    record { temperature_on_sensitivity = a; temperature_on_zero = b; calibration = g; parasitic_loads = h; uncertainty = sensor_uncertainty a b g h }
 
 -- ---- the loss uncertainty, over any number of sensors
 
@@ -194,6 +194,15 @@ pub record RowInRange (row : Row) : Type 0 where
   pub loss : loss_is_under_zero row.ratio row.input (output row) ≡ false
 
 -- ---- what the code answers
+
+-- what the code needs of U, for its square to fit 64 bits beside others
+abbrev pub UncertaintyBounded : Steps → Type 0
+UncertaintyBounded steps = steps.uncertainty ≤ 43000000
+
+-- U of a right output's sensor, if there is one
+abbrev pub right_uncertainty : Option Steps → List ℕ
+right_uncertainty None = []
+right_uncertainty (Some steps) = steps.uncertainty ∷ []
 
 -- the code's measured loss is in half micronewton metres, 20,000 to a hundredth of Nm
 abbrev pub LossSays : (ratio input output : ℕ) → Option ℕ → Type 0

@@ -1,13 +1,16 @@
-// The loss of an axle: the standard loss of a line, and the measured loss of a row of readings.
+// The loss of an axle: the standard loss of a line, the steps of a sensor's uncertainty, and the measured loss of a row of readings.
 #![tactic(auto)]
 
-ghost use Rattle.std.specs.Prelude.{◌≡◌, ◌+◌, ◌*◌, ◌≤◌, ◌<◌, ◌^◌};
+ghost use Rattle.std.specs.Prelude.{◌≡◌, ◌+◌, ◌*◌, ◌≤◌, ◌<◌, ◌^◌, ◌∷◌, IfOk, IfSome};
 ghost use Rattle.arith.specs.Quotient.{quotient_up};
 ghost use Rattle.arith.specs.Fraction.{Same, ◌over◌};
-ghost use Rattle.sensor.specs.Sensor.{SensorRules};
+ghost use Rattle.refusal.specs.Table.{outcome_of, outcome_as};
+ghost use Rattle.sensor.specs.Sensor.{check_without_place, SensorRules};
 ghost use Rattle.loss.specs.Standard.{line_of, Usable, standard_entry};
-ghost use Rattle.loss.specs.Measured.{fixed_parts, sensor_uncertainty, sensor_steps, scaled_uncertainty, sum_of_squares, loss_uncertainty, allowance, LossSays, entry_of};
+ghost use Rattle.loss.specs.Measured.{grains_up, temperature_on_sensitivity, temperature_on_zero, calibration, parasitic_loads, fixed_parts, sensor_uncertainty, scaled_uncertainty, sum_of_squares, loss_uncertainty, allowance, LossSays, UncertaintyBounded, right_uncertainty, entry_of};
+ghost use Rattle.loss.specs.SensorSteps.{steps_at, steps_answer, StepsRoundedUp};
 
+use refusal::Refusal;
 use sensor::Sensor;
 
 // An axle line: efficiency in percent, and the two drag constants in Nm.
@@ -76,25 +79,6 @@ pub fn standard_entry(line: u16, ratio: u16, torque: u16) -> u64
     (constant + turning + loaded).div_ceil(10 * efficiency)
 }
 
-// The parts of a sensor's uncertainty that do not depend on its torque, in grains: b, g and h.
-#[derive(Clone, Copy)]
-pub struct FixedParts {
-    pub zero: u64,
-    pub calibration: u64,
-    pub parasitic: u64,
-}
-
-// A sensor's uncertainty in grains, step by step in the order of the annex: a, b, g, h and U. (The fixed parts stand among them, for
-// a reviewer to see the five side by side.)
-#[derive(Clone, Copy)]
-pub struct Steps {
-    pub sensitivity: u64,
-    pub zero: u64,
-    pub calibration: u64,
-    pub parasitic: u64,
-    pub uncertainty: u32,
-}
-
 // n / d rounded up, where the sum fits. Quicker in each row than `div_ceil`, which looks at the remainder.
 #[tactic(auto, using(arith::proofs::Quotients::quotient_up_sum))]
 fn rounded_up(n: u64, d: u64) -> u64
@@ -111,29 +95,57 @@ fn product(a: u16, b: u16, c: u32) -> u64
     u64::from(a) * u64::from(b) * u64::from(c)
 }
 
-// b, g and h of a sensor.
-#[tactic(auto, unfolding(crate::specs::Measured::fixed_parts, crate::specs::Measured::grains_up, crate::specs::Measured::temperature_on_zero, crate::specs::Measured::calibration, crate::specs::Measured::parasitic_loads))]
-fn fixed_parts(sensor: Sensor) -> FixedParts
-    ensures { result ≡ fixed_parts sensor }
+// The steps of a sensor's uncertainty, each rounded up to a grain: the four parts in the order of the annex (source document 002,
+// Annex VII, 4.4.6), then the root over them.
+
+// a: temperature on sensitivity, at a torque in hundredths; the annex's U_TKC times the root of 3.
+#[tactic(auto, unfolding(crate::specs::Measured::grains_up, crate::specs::Measured::temperature_on_sensitivity))]
+fn temperature_on_sensitivity(sensor: Sensor, torque: u32) -> u64
+    requires sensor { SensorRules sensor }
+    requires torque { torque ≤ 100 * sensor.nominal }
+    ensures part { result ≡ grains_up (temperature_on_sensitivity sensor torque) }
+    ensures bound { result ≤ 25000000 }
 {
-    let nominal = u32::from(sensor.nominal);
-    let zero = arith::quotient_up(
-        product(sensor.zero, sensor.difference, nominal),
-        1000 * u64::from(sensor.span),
-    );
-    let calibration = arith::quotient_up(
-        product(sensor.calibration, sensor.nominal, 10),
-        u64::from(sensor.advancement),
-    );
-    let parasitic = arith::quotient_up(product(sensor.parasitic, sensor.share, nominal), 100_000);
-    FixedParts {
-        zero,
-        calibration,
-        parasitic,
-    }
+    rounded_up(
+        product(sensor.sensitivity, sensor.difference, torque),
+        100_000 * u64::from(sensor.span),
+    )
 }
 
-// U from a, b, g and h: the root of 4 * (a*a + b*b + 3*g*g + h*h) / 3, rounded up.
+// b: temperature on zero; U_TK0 times the root of 3.
+#[tactic(auto, unfolding(crate::specs::Measured::grains_up, crate::specs::Measured::temperature_on_zero))]
+fn temperature_on_zero(sensor: Sensor) -> u64
+    ensures { result ≡ grains_up (temperature_on_zero sensor) }
+{
+    arith::quotient_up(
+        product(sensor.zero, sensor.difference, u32::from(sensor.nominal)),
+        1000 * u64::from(sensor.span),
+    )
+}
+
+// g: calibration; U_cal.
+#[tactic(auto, unfolding(crate::specs::Measured::grains_up, crate::specs::Measured::calibration))]
+fn calibration(sensor: Sensor) -> u64
+    ensures { result ≡ grains_up (calibration sensor) }
+{
+    arith::quotient_up(
+        product(sensor.calibration, sensor.nominal, 10),
+        u64::from(sensor.advancement),
+    )
+}
+
+// h: parasitic loads; U_para times the root of 3.
+#[tactic(auto, unfolding(crate::specs::Measured::grains_up, crate::specs::Measured::parasitic_loads))]
+fn parasitic_loads(sensor: Sensor) -> u64
+    ensures { result ≡ grains_up (parasitic_loads sensor) }
+{
+    arith::quotient_up(
+        product(sensor.parasitic, sensor.share, u32::from(sensor.nominal)),
+        100_000,
+    )
+}
+
+// U: the root of 4 * (a*a + b*b + 3*g*g + h*h) / 3, rounded up; U_T,in or U_T,out.
 #[tactic(auto, using(crate::proofs::Parts::uncertainty_at_most), unfolding(crate::specs::Measured::sensor_uncertainty))]
 fn sensor_uncertainty(a: u64, b: u64, g: u64, h: u64) -> u64
     requires { (a ≤ 25000000) × (b ≤ 25000000) × (g ≤ 5000000) × (h ≤ 5000000) }
@@ -144,50 +156,88 @@ fn sensor_uncertainty(a: u64, b: u64, g: u64, h: u64) -> u64
     arith::root_up(rounded_up(4 * squares, 3))
 }
 
-// A sensor, with what is reckoned of it before its torques are known.
+// All five: a, b, g, h and U.
+#[derive(Clone, Copy, Default)]
+pub struct Steps {
+    pub temperature_on_sensitivity: u64,
+    pub temperature_on_zero: u64,
+    pub calibration: u64,
+    pub parasitic_loads: u64,
+    pub uncertainty: u32,
+}
+
+// The steps that do not depend on the torque: b, g and h.
+#[derive(Clone, Copy)]
+struct FixedParts {
+    pub temperature_on_zero: u64,
+    pub calibration: u64,
+    pub parasitic_loads: u64,
+}
+
+#[tactic(auto, unfolding(crate::specs::Measured::fixed_parts))]
+fn fixed_parts(sensor: Sensor) -> FixedParts
+    ensures { result ≡ fixed_parts sensor }
+{
+    FixedParts {
+        temperature_on_zero: temperature_on_zero(sensor),
+        calibration: calibration(sensor),
+        parasitic_loads: parasitic_loads(sensor),
+    }
+}
+
+// A sensor whose numbers are in their ranges, with what is reckoned of it before its torques are known.
 #[derive(Clone, Copy)]
 pub struct PreparedSensor {
     pub sensor: Sensor,
-    pub fixed: FixedParts,
+    fixed: FixedParts,
+    pub ghost rules: { SensorRules sensor },
     pub ghost own: { fixed ≡ fixed_parts sensor },
 }
 
 impl PreparedSensor {
-    pub fn new(sensor: Sensor) -> PreparedSensor
-        ensures { result.sensor ≡ sensor }
+    // 32, with place 0, where a number of the sensor is outside its range.
+    pub fn new(sensor: Sensor) -> Result<PreparedSensor, Refusal>
+        ensures answer { outcome_as (λ prepared. tt) result ≡ check_without_place sensor }
+        ensures sensor { IfOk result (λ prepared. prepared.sensor ≡ sensor) }
     {
-        PreparedSensor {
+        sensor.check()?;
+        Ok(PreparedSensor {
             sensor,
             fixed: fixed_parts(sensor),
-        }
+        })
     }
 
-    // The steps at a torque in hundredths.
-    pub fn steps(&self, torque: u32) -> Steps
-        requires sensor { SensorRules self.now.sensor }
-        requires torque { torque ≤ 5000000 }
-        ensures steps { result ≡ sensor_steps self.now.sensor torque }
-        ensures bound { result.uncertainty ≤ 43000000 }
+    // The steps at a torque in hundredths, in the order of the annex. 7, at a place, where it is above the nominal torque.
+    pub fn steps(&self, torque: u32, place: usize) -> Result<Steps, Refusal>
+        ensures answer { outcome_of result ≡ steps_at self.now.sensor torque place }
+        ensures rounded_up { IfOk result (StepsRoundedUp self.now.sensor torque) }
+        ensures bounded { IfOk result UncertaintyBounded }
     {
-        let FixedParts {
-            zero,
-            calibration,
-            parasitic,
-        } = self.fixed;
-        let sensitivity = rounded_up(
-            product(self.sensor.sensitivity, self.sensor.difference, torque),
-            100_000 * u64::from(self.sensor.span),
-        );
-        let uncertainty = sensor_uncertainty(sensitivity, zero, calibration, parasitic);
-        Steps {
-            sensitivity,
-            zero,
-            calibration,
-            parasitic,
+        if 100 * u32::from(self.sensor.nominal) < torque {
+            return Err(Refusal::AboveNominal(place));
+        }
+        let a = temperature_on_sensitivity(self.sensor, torque);
+        let b = self.fixed.temperature_on_zero;
+        let g = self.fixed.calibration;
+        let h = self.fixed.parasitic_loads;
+        let uncertainty = sensor_uncertainty(a, b, g, h);
+        Ok(Steps {
+            temperature_on_sensitivity: a,
+            temperature_on_zero: b,
+            calibration: g,
+            parasitic_loads: h,
             // fits: it is at most 43,000,000
             uncertainty: uncertainty as u32,
-        }
+        })
     }
+}
+
+// The steps of any sensor at any torque in hundredths; or 32, then 7, both with place 0.
+pub fn sensor_steps(sensor: Sensor, torque: u32) -> Result<Steps, Refusal>
+    ensures answer { outcome_of result ≡ steps_answer sensor torque }
+    ensures rounded_up { IfOk result (StepsRoundedUp sensor torque) }
+{
+    PreparedSensor::new(sensor)?.steps(torque, 0)
 }
 
 // A torque or an uncertainty times a ratio in thousandths.
@@ -200,20 +250,36 @@ fn at_ratio(n: u32, ratio: u16) -> u64
 
 // A sensor's uncertainty times a factor in thousandths, rounded up to a grain.
 #[tactic(auto, unfolding(crate::specs::Measured::scaled_uncertainty))]
-pub fn scaled_uncertainty(factor: u16, uncertainty: u32) -> u64
+fn scaled_uncertainty(factor: u16, uncertainty: u32) -> u64
     ensures { result ≡ scaled_uncertainty factor uncertainty }
 {
     rounded_up(at_ratio(uncertainty, factor), 1000)
 }
 
-// The loss uncertainty in grains: the root of the sum of the squares, rounded up.
-#[tactic(auto, using(crate::proofs::Parts::root_at_most), unfolding(crate::specs::Measured::loss_uncertainty))]
-pub fn loss_uncertainty(parts: &[u64]) -> u64
+// The root of the sum of the squares, rounded up: the loss uncertainty in grains.
+#[tactic(auto, unfolding(crate::specs::Measured::loss_uncertainty))]
+fn loss_uncertainty(parts: &[u64]) -> u64
     requires { sum_of_squares parts.now < 2 ^ 64 }
-    ensures uncertainty { result ≡ loss_uncertainty parts.now }
-    ensures bound { result ≤ 4294967296 }
+    ensures { result ≡ loss_uncertainty parts.now }
 {
     arith::root_up(parts.iter().map(|part| part * part).sum())
+}
+
+// The loss uncertainty of a row, from the steps of its sensors; where there is a right output, output is the left one. It fits 32
+// bits whatever the ratio is.
+pub fn row_uncertainty(ratio: u16, input: Steps, output: Steps, right: Option<Steps>) -> u32
+    requires input { UncertaintyBounded input }
+    requires output { UncertaintyBounded output }
+    requires right { IfSome right UncertaintyBounded }
+    ensures { result ≡ loss_uncertainty (scaled_uncertainty ratio input.uncertainty ∷ output.uncertainty ∷ right_uncertainty right) }
+{
+    let at_wheel = scaled_uncertainty(ratio, input.uncertainty);
+    let output = u64::from(output.uncertainty);
+    let uncertainty = match right {
+        Some(right) => loss_uncertainty(&[at_wheel, output, u64::from(right.uncertainty)]),
+        None => loss_uncertainty(&[at_wheel, output]),
+    };
+    uncertainty as u32
 }
 
 // What a row was measured to: the ratio, the input torque, and the output torques together, in hundredths of Nm. What is

@@ -5,9 +5,10 @@ use mathlib.Core.Bool.{false}
 use mathlib.Core.List.{List, [], ◌∷◌}
 use native.Mathlib.Omega.{arith}
 use lib.ListN.{length}
+use Rattle.sensor.specs.Sensor.{AllSensorRules}
 use Rattle.sensor.specs.declared.Sensor.{Sensor}
 use Rattle.component.specs.Component.{Component, Rows}
-use Rattle.layout.specs.Rules.{AllSensorRules, MeasuredRules, Rules}
+use Rattle.layout.specs.Rules.{MeasuredRules, Rules}
 use Rattle.loss.specs.Measured.{output, loss_is_under_zero, AllInRange, RowInRange}
 use Rattle.rows.specs.Rows.{outputs_at, row_at}
 use Rattle.rows.proofs.RowSensors.{outputs_count}

@@ -8,7 +8,7 @@ ghost use Rattle.grid.specs.Lists.{tabulate, joined, overwritten};
 ghost use Rattle.component.specs.Answers.{CountsWithin, component_of};
 ghost use Rattle.layout.specs.Rules.{Rules};
 ghost use Rattle.rows.specs.Rows.{row_start};
-ghost use Rattle.rows.specs.Answers.{speed_part_check, speed_part_entries, bench_of, BenchRight};
+ghost use Rattle.rows.specs.Answers.{speed_part_check, speed_part_entries, bench_of};
 ghost use Rattle.map.specs.Answers.{stretch, standard_at, standard_row, EntriesWritten, BuildsEntries, Builds};
 
 use component::{Component, Rows};
@@ -68,8 +68,7 @@ fn build_standard(component: &Component, speeds: usize, torques: &[u16], entries
     build_rows(&row, 0, torques.len(), speeds, entries);
 }
 
-// Measured entries: all rows are checked before the first entry is written. (Rows, bench and torques as in `fill_rows`, and the
-// bench's sensors are right as they were read.)
+// Measured entries: all rows are checked before the first entry is written. (Rows, bench and torques as in `fill_rows`.)
 #[tactic(auto, using(crate::proofs::Copying::own_stretch, rows::proofs::RowParts::speed_size))]
 fn build_measured(
     rows: Rows,
@@ -78,7 +77,6 @@ fn build_measured(
     torques: &[u16],
     entries: &mut [u32],
 ) -> Result<(), Refusal>
-    requires bench { BenchRight bench.now }
     requires rows { row_start (bench_of bench.now) (speeds * length torques.now) ≤ length rows.bytes.now }
     requires points { speeds * length torques.now ≤ 2048 }
     requires entries { speeds * length torques.now ≤ length entries.old }
@@ -94,7 +92,8 @@ fn build_measured(
     Ok(())
 }
 
-// The entries of data that was read: 11, then the rows in order, then the entries are written.
+// The entries of data that was read: 11, then the rows in order, then the entries are written. (No sensor is refused here: its
+// numbers were read, and are in their ranges.)
 fn build_entries(component: &Component, entries: &mut [u32]) -> Result<(), Refusal>
     requires rules { Rules (component_of component.now) }
     requires counts { CountsWithin component.now.grid }
@@ -118,7 +117,7 @@ fn build_entries(component: &Component, entries: &mut [u32]) -> Result<(), Refus
                 measured.input,
                 measured.output,
                 measured.right,
-            );
+            )?;
             build_measured(measured.rows, &bench, speeds, torques, entries)
         }
     }

@@ -7,7 +7,7 @@ use native.Mathlib.Omega.{arith}
 use native.Mathlib.Decide.{dec_le, ℕ_discrete}
 use borrow.Author.Tests.{le-leb, leb-true, eqb-true, eq-eqb, ne_eqb}
 use lib.ListN.{length, take, length-take, get_or-eq_default}
-use Rattle.refusal.specs.Outcome.{accepted, without_place}
+use Rattle.refusal.specs.Outcome.{accepted}
 use Rattle.refusal.proofs.Steps.{then_accepted, test_accepted, require_accepted, placed_accepted}
 use Rattle.grid.specs.Axis.{◌to◌, within, first_step}
 use Rattle.grid.specs.Map.{counted_numbers}
@@ -15,16 +15,16 @@ use Rattle.grid.specs.Rules.{InRange, AxisRules, FirstStep}
 use Rattle.grid.specs.declared.Range.{Range}
 use Rattle.grid.specs.declared.Grid.{Grid}
 use Rattle.grid.proofs.AxisLaws.{in_range, within_range, axis_accepted, rules_accepted}
-use Rattle.sensor.specs.Sensor.{sensor_check, sensor_numbers}
+use Rattle.sensor.specs.Sensor.{AllSensorRules, sensors_check}
 use Rattle.sensor.specs.declared.Sensor.{Sensor}
-use Rattle.sensor.proofs.Sensors.{sensor_rules, sensor_accepted}
+use Rattle.sensor.proofs.Sensors.{sensors_right, sensors_accepted}
 use Rattle.component.specs.Component.{Rows, sensor_count, kind_number}
 use Rattle.component.specs.Answers.{kind_of, outputs_of}
 use Rattle.layout.specs.Layout.{torque_bytes}
-use Rattle.layout.specs.Rules.{FitFourBytes, AllSensorRules, rows_head, MeasuredRules, KindRules}
+use Rattle.layout.specs.Rules.{FitFourBytes, rows_head, MeasuredRules, KindRules}
 use Rattle.layout.proofs.FieldBytes.{length_torque_bytes}
 use Rattle.layout.proofs.LaidBytes.{torque_bytes_are, kind_range}
-use Rattle.numbers.specs.Check.{axle_check, axis_check, axes_check, sensors_check, measured_check, numbers_check}
+use Rattle.numbers.specs.Check.{axle_check, axis_check, axes_check, measured_check, numbers_check}
 use Rattle.numbers.specs.Says.{says, NumbersRules}
 use Rattle.numbers.specs.declared.Numbers.{Numbers}
 use Rattle.numbers.proofs.Checks.{count_within, counts_within}
@@ -103,19 +103,6 @@ axes_accepted : (grid : Grid) → AxesKept grid → axes_check grid ≡ accepted
 unfolding axes_check first_step
 axes_accepted grid k =
     rw (axis_kept 32 (1 to 3000) _ _ k.speeds, axis_kept 64 (0 to 50000) _ _ k.torques, le-leb _ _ k.step)
-
--- ---- sensors
-sensors_right : (sensors : List Sensor) → sensors_check sensors ≡ accepted tt → AllSensorRules sensors
-unfolding sensors_check
-sensors_right [] e = tt
-sensors_right (sensor ∷ sensors) e =
-    let first = then_accepted (without_place (sensor_check (sensor_numbers sensor))) _ tt e in
-    (sensor_rules (sensor_numbers sensor) (placed_accepted _ _ tt first.1), sensors_right sensors first.2)
-
-sensors_accepted : (sensors : List Sensor) → AllSensorRules sensors → sensors_check sensors ≡ accepted tt
-unfolding sensors_check
-sensors_accepted [] r = refl
-sensors_accepted (sensor ∷ sensors) r = rw (sensor_accepted sensor r.0, sensors_accepted sensors r.1)
 
 -- ---- from tag 6 on, for m speeds and n torques
 module _ (m n : ℕ) (input output right : Sensor) (torques : List ℕ) where

@@ -1,13 +1,12 @@
 -- Document 02, C-12 and C-14: the reader's tests 3 to 6, 31 and 32, in the reader's order and "with place 0", of numbers that are handed over.
-use Rattle.std.specs.Prelude.{ℕ, ◌*◌, List, [], ◌∷◌, eqb, take, if◌then◌else◌}
+use Rattle.std.specs.Prelude.{ℕ, ◌*◌, List, ◌∷◌, eqb, take, if◌then◌else◌}
 use Rattle.refusal.specs.Outcome.{Outcome, accepted, ◌>>=◌, require_told, require, without_place}
 use Rattle.grid.specs.Axis.{◌to◌, within, axis_numbers, first_step}
 use Rattle.grid.specs.Map.{counted_numbers}
 use Rattle.grid.specs.declared.Range.{Range}
 use Rattle.grid.specs.declared.Grid.{Grid}
 use Rattle.fields.specs.Field.{ratio_refusal}
-use Rattle.sensor.specs.Sensor.{sensor_check, sensor_numbers}
-use Rattle.sensor.specs.declared.Sensor.{Sensor}
+use Rattle.sensor.specs.Sensor.{sensors_check}
 use Rattle.component.specs.Answers.{outputs_of}
 use Rattle.numbers.specs.declared.Numbers.{Numbers}
 
@@ -30,13 +29,6 @@ axes_check grid = do
   _ ← axis_check 32 (1 to 3000) grid.speeds.numbers grid.speeds.count
   _ ← axis_check 64 (0 to 50000) grid.torques.numbers grid.torques.count
   require (first_step (counted_numbers grid.torques)) 6 0
-
--- sensors, one after another
-unfoldable pub sensors_check : List Sensor → Outcome (Unit {0})
-sensors_check [] = accepted tt
-sensors_check (sensor ∷ sensors) = do
-  _ ← without_place (sensor_check (sensor_numbers sensor))
-  sensors_check sensors
 
 -- from tag 6 on: the sensors that the kind has, and a torque of each of them at each point; "for kind 1, sensors and rows aren't looked at"
 unfoldable pub measured_check : Numbers → (row_torque_count : ℕ) → Outcome (Unit {0})

@@ -2,11 +2,10 @@
 #![tactic(auto)]
 
 ghost use Rattle.std.specs.Prelude.{◌≡◌, ◌∷◌, ◌≤◌, IfOk};
-ghost use Rattle.refusal.specs.Outcome.{without_place};
 ghost use Rattle.refusal.specs.Table.{outcome_of, outcome_as};
-ghost use Rattle.sensor.specs.Sensor.{sensor_check, sensor_numbers};
+ghost use Rattle.sensor.specs.Sensor.{sensors_check};
 ghost use Rattle.component.specs.Answers.{number_of, outputs_of};
-ghost use Rattle.numbers.specs.Check.{axle_check, axis_check, axes_check, sensors_check, measured_check, numbers_check};
+ghost use Rattle.numbers.specs.Check.{axle_check, axis_check, axes_check, measured_check, numbers_check};
 
 use component::Kind;
 use grid::{Axis, Grid, Range};
@@ -69,27 +68,18 @@ fn axes_check(grid: &Grid) -> Result<(), Refusal>
     Ok(())
 }
 
-fn sensor_check(sensor: Sensor) -> Result<(), Refusal>
-    ensures { outcome_of result ≡ without_place (sensor_check (sensor_numbers sensor)) }
-{
-    match sensor::sensor_fault(&sensor.numbers()) {
-        None => Ok(()),
-        Some(index) => Err(Refusal::SensorOutOfRange { place: 0, index }),
-    }
-}
-
 // The sensors of a measured kind. (The kind, here and below, is that of the numbers: a struct of both would be made and opened at
 // once.)
-#[tactic(auto, unfolding(crate::specs::Check::sensors_check))]
+#[tactic(auto, unfolding(sensor::specs::Sensor::sensors_check))]
 fn sensors_check(numbers: &Numbers, kind: Kind) -> Result<(), Refusal>
     ensures { outcome_of result ≡ sensors_check (numbers.now.input ∷ outputs_of (number_of kind) numbers.now.output numbers.now.right) }
 {
-    sensor_check(numbers.input)?;
-    sensor_check(numbers.output)?;
+    numbers.input.check()?;
+    numbers.output.check()?;
     if let Kind::Measured = kind {
         return Ok(());
     }
-    sensor_check(numbers.right)
+    numbers.right.check()
 }
 
 // The sensors, and how many torques the rows have: one of each sensor at each point.

@@ -68,10 +68,11 @@ module _ (row : Row) (p : Passes row) where
   unfolding row_uncertainty readings reading_uncertainty
   uncertainty_at_most =
       let r = p.in_range in
-      root_fits (map reading_uncertainty (map output_reading row.outputs))
-      (scaled_at_most r.ratio (steps_at_most r.sensor (torque_at_most r.sensor p.input)))
+      root_fits 20 (map reading_uncertainty (map output_reading row.outputs))
+      (scaled_at_most 20 r.ratio (steps_at_most r.sensor (torque_at_most r.sensor p.input)))
       (outputs_small row.outputs r.outputs p.outputs)
       (rw (outputs_counted row.outputs) r.few)
+      (omega arith)
 
   -- ---- both entries as quotients, 20,000 to a hundredth of Nm
 

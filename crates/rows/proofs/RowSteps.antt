@@ -6,9 +6,9 @@ use mathlib.Core.List.{List, [], ◌∷◌}
 use native.Mathlib.Omega.{arith}
 use lib.Dec.{leb}
 use Rattle.refusal.specs.Outcome.{Outcome, accepted, refused, ◌>>=◌, require, placed}
-use Rattle.loss.specs.Measured.{Output, Row, output, loss_is_under_zero, measured_entry}
+use Rattle.loss.specs.Measured.{Output, Row, output, loss_is_under_zero, row_uncertainty, measured_entry}
 use Rattle.rows.specs.Rows.{near_axis, outputs_check, row_check}
-use Rattle.rows.specs.Answers.{row_outcome}
+use Rattle.rows.specs.Answers.{uncertainty_outcome, row_outcome}
 
 placed_test : (test : Bool) (number start offset : ℕ) (rest : Outcome (Unit {0}))
     → placed (λ place. start + place) (require test number offset >>= λ _. rest) ≡ (require test number (start + offset) >>= λ _. placed (λ place. start + place) rest)
@@ -57,6 +57,14 @@ module _ (torque : ℕ) (row : Row) (place : ℕ) where
       go true true true false (accepted u) = rw z
       go true true true true (accepted u) = refl
 
-  pub outcome_at : row_outcome torque row place ≡ (tests_at >>= λ _. accepted (measured_entry row))
-  unfolding row_outcome
-  outcome_at = rw check_at
+  -- 7 of each sensor and the loss uncertainty first, then 8, 9 and 10
+  pub outcome_at : row_outcome torque row place ≡ (uncertainty_outcome row place >>= λ _. loss_tests torque row.ratio row.input (output row) (measured_entry row) place >>= λ _. accepted (measured_entry row))
+  unfolding row_outcome uncertainty_outcome
+  outcome_at = rw check_at (go (leb row.input (100 * row.sensor.nominal)) (outputs_check row.outputs (place + 4)))
+    where
+      go : (a : Bool) (b : Outcome (Unit {0}))
+          → ((require a 7 place >>= λ _. b >>= λ _. loss_tests torque row.ratio row.input (output row) (measured_entry row) place) >>= λ _. accepted (measured_entry row))
+          ≡ ((require a 7 place >>= λ _. b >>= λ _. accepted (row_uncertainty row)) >>= λ _. loss_tests torque row.ratio row.input (output row) (measured_entry row) place >>= λ _. accepted (measured_entry row))
+      go false b = refl
+      go true (refused t) = refl
+      go true (accepted u) = refl

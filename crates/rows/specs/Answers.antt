@@ -1,13 +1,13 @@
 -- What the code's answers about a row say in document 01's terms.
-use Rattle.std.specs.Prelude.{ℕ, ◌+◌, ◌≤◌, ◌*◌, List, [], ◌∷◌, length, get_or, drop, Option, Some, None, IfSome}
+use Rattle.std.specs.Prelude.{ℕ, ◌+◌, ◌*◌, List, [], ◌∷◌, length, get_or, drop, Option, Some, None}
 use Rattle.refusal.specs.Outcome.{Outcome, accepted, ◌>>=◌, placed, first_refusal}
 use Rattle.component.specs.Answers.{output_sensors}
-use Rattle.sensor.specs.Sensor.{SensorRules}
 use Rattle.sensor.specs.declared.Sensor.{Sensor}
 use Rattle.grid.specs.Lists.{tabulate}
-use Rattle.loss.specs.Measured.{Output, Row, measured_entry}
+use Rattle.loss.specs.Measured.{Output, Row, row_uncertainty, measured_entry}
+use Rattle.loss.specs.SensorSteps.{nominal_check}
 use Rattle.loss.specs.declared.PreparedSensor.{PreparedSensor}
-use Rattle.rows.specs.Rows.{Bench, row_at, row_start, row_check}
+use Rattle.rows.specs.Rows.{Bench, row_at, row_start, outputs_check, row_check}
 use Rattle.rows.specs.declared.Bench.{Bench as BenchParts}
 use Rattle.rows.specs.declared.row.Reading.{Reading}
 use Rattle.rows.specs.declared.row.Row.{Row as RowParts}
@@ -33,13 +33,6 @@ bench_with ratio input output right = record {
   outputs = output_sensors output right;
 }
 
--- each sensor keeps its rules
-pub record BenchRight (b : BenchParts) : Type 0 where
-  pub ratio : b.ratio ≤ 20000
-  pub input : SensorRules b.input.sensor
-  pub output : SensorRules b.output.sensor
-  pub right : IfSome b.right (λ s. SensorRules s.sensor)
-
 -- an output as it is read
 abbrev pub output_of : Reading → Output
 output_of r = record { sensor = r.sensor.now.sensor; torque = r.torque }
@@ -58,7 +51,14 @@ row_of row = record {
   outputs = output_of row.output ∷ right_output row.right;
 }
 
--- a row whose first byte is at a place: its refusal or its entry
+-- a row whose first byte is at a place: 7 of each sensor, or its loss uncertainty
+unfoldable pub uncertainty_outcome : Row → ℕ → Outcome ℕ
+uncertainty_outcome row place = do
+  _ ← nominal_check row.sensor row.input place
+  _ ← outputs_check row.outputs (place + 4)
+  accepted (row_uncertainty row)
+
+-- its refusal or its entry
 unfoldable pub row_outcome : ℕ → Row → ℕ → Outcome ℕ
 row_outcome torque row place = do
   _ ← placed (λ offset. place + offset) (row_check torque row)

@@ -5,6 +5,7 @@ use Rattle.fields.specs.Bytes.{number_of, between}
 use Rattle.sensor.specs.declared.Sensor.{Sensor}
 use Rattle.component.specs.Component.{sensor_count, row_length}
 use Rattle.loss.specs.Measured.{Output, Row, output, loss_is_under_zero, measured_entry}
+use Rattle.loss.specs.SensorSteps.{nominal_check}
 
 -- what all rows share: the ratio and the sensors
 pub record Bench : Type 0 where
@@ -42,13 +43,13 @@ near_axis torque output = leb output (100 * torque + 500) && leb (100 * torque) 
 unfoldable pub outputs_check : List Output → ℕ → Outcome (Unit {0})
 outputs_check [] place = accepted tt
 outputs_check (o ∷ os) place = do
-  _ ← require (leb o.torque (100 * o.sensor.nominal)) 7 place
+  _ ← nominal_check o.sensor o.torque place
   outputs_check os (place + 4)
 
 -- The tests of a row, in their order. A place counts from the row's first byte. 8 and 9 are of all outputs' torque together.
 unfoldable pub row_check : ℕ → Row → Outcome (Unit {0})
 row_check torque row = do
-  _ ← require (leb row.input (100 * row.sensor.nominal)) 7 0
+  _ ← nominal_check row.sensor row.input 0
   _ ← outputs_check row.outputs 4
   _ ← require (near_axis torque (output row)) 8 4
   _ ← require (not (loss_is_under_zero row.ratio row.input (output row))) 9 0

@@ -1,14 +1,15 @@
 // The rows of readings: what a row is, and all rows of a map in their order.
 #![tactic(auto)]
 
-ghost use Rattle.std.specs.Prelude.{◌≡◌, ◌+◌, ◌*◌, ◌≤◌, length, OnOk};
+ghost use Rattle.std.specs.Prelude.{◌≡◌, ◌+◌, ◌*◌, ◌≤◌, ◌∷◌, length, IfOk, OnOk};
 ghost use Rattle.refusal.specs.Outcome.{first_refusal};
-ghost use Rattle.refusal.specs.Table.{outcome_of};
+ghost use Rattle.refusal.specs.Table.{outcome_of, outcome_as};
 ghost use Rattle.grid.specs.Lists.{tabulate, joined, overwritten};
+ghost use Rattle.sensor.specs.Sensor.{sensors_check};
 ghost use Rattle.component.specs.Component.{sensor_count, row_length};
-ghost use Rattle.sensor.specs.Sensor.{SensorRules};
+ghost use Rattle.component.specs.Answers.{output_sensors};
 ghost use Rattle.rows.specs.Rows.{torque_at, row_at, row_start};
-ghost use Rattle.rows.specs.Answers.{bench_of, bench_with, BenchRight, row_of, part_check, part_entry, speed_part_check, speed_part_entries};
+ghost use Rattle.rows.specs.Answers.{bench_of, bench_with, row_of, part_check, part_entry, speed_part_check, speed_part_entries};
 
 mod row;
 
@@ -19,7 +20,6 @@ use row::{Reading, Row};
 use sensor::Sensor;
 
 // What all rows share: the ratio and the sensors. Where there is a right output, output is the left one.
-// That its sensors are right is a clause of what makes rows with them: `Bench::new` takes any, and a type that said so would ask more.
 #[derive(Clone, Copy)]
 pub struct Bench {
     pub ratio: u16,
@@ -40,8 +40,7 @@ fn torque_at(bytes: &[u8], at: usize) -> u32
 
 // A sensor with the torque at an index of the rows' bytes.
 fn reading_at<'a>(sensor: &'a PreparedSensor, bytes: &[u8], at: usize) -> Reading<'a>
-    requires rules { SensorRules sensor.now.sensor }
-    requires bytes { at + 4 ≤ length bytes.now }
+    requires { at + 4 ≤ length bytes.now }
     ensures sensor { result.sensor.now.sensor ≡ sensor.now.sensor }
     ensures torque { result.torque ≡ torque_at bytes.now at }
 {
@@ -52,15 +51,28 @@ fn reading_at<'a>(sensor: &'a PreparedSensor, bytes: &[u8], at: usize) -> Readin
 }
 
 impl Bench {
-    pub fn new(ratio: u16, input: Sensor, output: Sensor, right: Option<Sensor>) -> Bench
-        ensures { bench_of result ≡ bench_with ratio input output right }
+    // 32 where a number of a sensor is outside its range, with place 0.
+    pub fn new(
+        ratio: u16,
+        input: Sensor,
+        output: Sensor,
+        right: Option<Sensor>,
+    ) -> Result<Bench, Refusal>
+        ensures answer { outcome_as (λ bench. tt) result ≡ sensors_check (input ∷ output_sensors output right) }
+        ensures bench { IfOk result (λ bench. bench_of bench ≡ bench_with ratio input output right) }
     {
-        Bench {
+        let input = PreparedSensor::new(input)?;
+        let output = PreparedSensor::new(output)?;
+        let right = match right {
+            Some(right) => Some(PreparedSensor::new(right)?),
+            None => None,
+        };
+        Ok(Bench {
             ratio,
-            input: PreparedSensor::new(input),
-            output: PreparedSensor::new(output),
-            right: right.map(PreparedSensor::new),
-        }
+            input,
+            output,
+            right,
+        })
     }
 
     // How many bytes a row has: four for each torque.
@@ -73,8 +85,7 @@ impl Bench {
     // The row that starts at an index of the rows' bytes.
     #[tactic(auto, unfolding(crate::specs::Rows::row_at, crate::specs::Rows::outputs_at))]
     fn row_at(&self, bytes: &[u8], at: usize) -> Row<'_>
-        requires bench { BenchRight self.now }
-        requires bytes { at + row_length (sensor_count (bench_of self.now).outputs) ≤ length bytes.now }
+        requires { at + row_length (sensor_count (bench_of self.now).outputs) ≤ length bytes.now }
         ensures { row_of result ≡ row_at (bench_of self.now) bytes.now at }
     {
         Row {
@@ -98,7 +109,6 @@ fn fill_speed(
     torques: &[u16],
     entries: &mut [u32],
 ) -> Result<(), Refusal>
-    requires bench { BenchRight bench.now }
     requires rows { row_start (bench_of bench.now) (length torques.now) ≤ length rows.bytes.now }
     requires entries { length torques.now ≤ length entries.old }
     ensures answer { outcome_of result ≡
@@ -126,7 +136,6 @@ pub fn fill_rows(
     torques: &[u16],
     entries: &mut [u32],
 ) -> Result<(), Refusal>
-    requires bench { BenchRight bench.now }
     requires rows { row_start (bench_of bench.now) (speeds * length torques.now) ≤ length rows.bytes.now }
     requires entries { speeds * length torques.now ≤ length entries.old }
     ensures answer { outcome_of result ≡

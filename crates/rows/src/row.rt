@@ -1,45 +1,30 @@
 // One row: its sensors with their torques, and its refusal (7 to 10) or its entry.
 #![tactic(auto)]
 
-ghost use Rattle.std.specs.Prelude.{◌≡◌, ◌+◌, ◌*◌, ◌≤◌, ◌<◌, ◌^◌, leb, IfSome};
-ghost use Rattle.refusal.specs.Outcome.{require};
+ghost use Rattle.std.specs.Prelude.{◌≡◌, ◌+◌, ◌≤◌, ◌<◌, ◌^◌, IfOk, IfSome};
 ghost use Rattle.refusal.specs.Table.{outcome_of};
-ghost use Rattle.sensor.specs.Sensor.{SensorRules};
-ghost use Rattle.loss.specs.Measured.{sensor_steps, output, row_uncertainty};
-ghost use Rattle.rows.specs.Rows.{near_axis, outputs_check};
+ghost use Rattle.loss.specs.Measured.{output, UncertaintyBounded};
+ghost use Rattle.loss.specs.SensorSteps.{steps_at};
+ghost use Rattle.rows.specs.Rows.{near_axis};
 
 use grid::LARGEST_ENTRY;
-use loss::{Measurement, PreparedSensor};
+use loss::{Measurement, PreparedSensor, Steps};
 use refusal::Refusal;
 
-// A sensor with its torque in a row, in hundredths of Nm. (That the torque is at most 50,000.00 Nm is known once 7 was tested,
-// and is a clause from there on: a second type for a reading that passed would be made and opened at once.)
+// A sensor with its torque in a row, in hundredths of Nm.
 #[derive(Clone, Copy)]
 pub struct Reading<'a> {
     pub sensor: &'a PreparedSensor,
     pub torque: u32,
-    pub ghost rules: { SensorRules sensor.now.sensor },
 }
 
 impl Reading<'_> {
-    // 7: a torque must not be above its sensor's nominal torque. The torque is at a place of the data.
-    fn check_nominal(self, place: usize) -> Result<(), Refusal>
-        ensures { outcome_of result ≡ require (leb self.entry.torque (100 * self.entry.sensor.now.sensor.nominal)) 7 place }
+    // The steps of its uncertainty, or 7; the torque is at a place of the data.
+    fn steps(self, place: usize) -> Result<Steps, Refusal>
+        ensures answer { outcome_of result ≡ steps_at self.entry.sensor.now.sensor self.entry.torque place }
+        ensures bounded { IfOk result UncertaintyBounded }
     {
-        if self.torque <= 100 * u32::from(self.sensor.sensor.nominal) {
-            Ok(())
-        } else {
-            Err(Refusal::AboveNominal(place))
-        }
-    }
-
-    // Its uncertainty, in grains.
-    fn uncertainty(self) -> u32
-        requires { self.torque ≤ 5000000 }
-        ensures uncertainty { result ≡ (sensor_steps self.entry.sensor.now.sensor self.entry.torque).uncertainty }
-        ensures bound { result ≤ 43000000 }
-    {
-        self.sensor.steps(self.torque).uncertainty
+        self.sensor.steps(self.torque, place)
     }
 }
 
@@ -51,33 +36,18 @@ fn near_axis(torque: u16, output: u32) -> bool
     output.abs_diff(100 * u32::from(torque)) <= 500
 }
 
-// The readings of a row. Where there is a right output, output is the left one. (It is no `Bench` of another type: its sensors
-// are right, while a bench takes any. Its place is handed on beside it, for a refusal alone tells it; and one output or two are
-// told by `match`, for there is no list to go through.)
+// The readings of a row. Where there is a right output, output is the left one. (Its place is handed on beside it, for a refusal
+// alone tells it; and one output or two are told by `match`, for there is no list to go through.)
 #[derive(Clone, Copy)]
 pub struct Row<'a> {
     pub ratio: u16,
     pub input: Reading<'a>,
     pub output: Reading<'a>,
     pub right: Option<Reading<'a>>,
-    pub ghost in_range: { ratio ≤ 20000 },
 }
 
 impl Row<'_> {
-    ghost use Rattle.rows.specs.Answers.{row_of, row_outcome};
-
-    // 7 of each output; the first torque of them is at a place of the data.
-    #[tactic(auto, unfolding(crate::specs::Rows::outputs_check))]
-    fn check_outputs(&self, place: usize) -> Result<(), Refusal>
-        requires { place + 4 < 2 ^ 64 }
-        ensures { outcome_of result ≡ outputs_check (row_of self.now).outputs place }
-    {
-        self.output.check_nominal(place)?;
-        match self.right {
-            Some(right) => right.check_nominal(place + 4),
-            None => Ok(()),
-        }
-    }
+    ghost use Rattle.rows.specs.Answers.{row_of, uncertainty_outcome, row_outcome};
 
     // The outputs' torques together.
     fn output_torque(&self) -> u32
@@ -88,23 +58,18 @@ impl Row<'_> {
         self.output.torque + self.right.map_or(0, |right| right.torque)
     }
 
-    // The loss uncertainty of a row, in grains: at most 903,000,000, so the cast fits.
-    fn uncertainty(&self) -> u32
-        requires input { self.now.input.torque ≤ 5000000 }
-        requires output { self.now.output.torque ≤ 5000000 }
-        requires right { IfSome self.now.right (λ r. r.torque ≤ 5000000) }
-        ensures { result ≡ row_uncertainty (row_of self.now) }
+    // The loss uncertainty in grains, or 7, first for the input and then for each output. The row's first byte is at a place.
+    fn uncertainty(&self, place: usize) -> Result<u32, Refusal>
+        requires { place + 8 < 2 ^ 64 }
+        ensures { outcome_of result ≡ uncertainty_outcome (row_of self.now) place }
     {
-        let at_wheel = loss::scaled_uncertainty(self.ratio, self.input.uncertainty());
-        let output = u64::from(self.output.uncertainty());
-        let uncertainty = match self.right {
-            Some(right) => {
-                let right = u64::from(right.uncertainty());
-                loss::loss_uncertainty(&[at_wheel, output, right])
-            }
-            None => loss::loss_uncertainty(&[at_wheel, output]),
+        let input = self.input.steps(place)?;
+        let output = self.output.steps(place + 4)?;
+        let right = match self.right {
+            Some(right) => Some(right.steps(place + 8)?),
+            None => None,
         };
-        uncertainty as u32
+        Ok(loss::row_uncertainty(self.ratio, input, output, right))
     }
 
     // The entry of a row whose first byte is at a place of the data, or its refusal: 7 for the input and for each
@@ -113,8 +78,7 @@ impl Row<'_> {
         requires { place + 8 < 2 ^ 64 }
         ensures { outcome_of result ≡ row_outcome axis_torque (row_of self.now) place }
     {
-        self.input.check_nominal(place)?;
-        self.check_outputs(place + 4)?;
+        let uncertainty = self.uncertainty(place)?;
         let measurement = Measurement {
             ratio: self.ratio,
             input: self.input.torque,
@@ -126,7 +90,7 @@ impl Row<'_> {
         if measurement.loss().is_none() {
             return Err(Refusal::NegativeLoss(place));
         }
-        let entry = measurement.entry(self.uncertainty());
+        let entry = measurement.entry(uncertainty);
         if u64::from(LARGEST_ENTRY) < entry {
             return Err(Refusal::EntryTooLarge(place));
         }

@@ -13,14 +13,14 @@ use Rattle.std.specs.List.{position, position_or_len, zip}
 use Rattle.std.proofs.lemmas.Bool.{lt-ltb, le-ltb, not-true, not-false}
 use Rattle.std.proofs.lemmas.List.Sums.{fails_before_first, passes_at_first}
 use Rattle.std.proofs.lemmas.Slice.Zip.{length-zip, get_or-zip}
-use Rattle.refusal.specs.Outcome.{Told, refusal_with_index, accepted, refused, first_refusal}
-use Rattle.refusal.proofs.Steps.{require_accepted, require_refused}
+use Rattle.refusal.specs.Outcome.{Told, refusal_with_index, accepted, refused, first_refusal, without_place}
+use Rattle.refusal.proofs.Steps.{then_accepted, placed_accepted, require_accepted, require_refused}
 use Rattle.refusal.proofs.First.{first_all, first_found, first_of, first_refused}
 use Rattle.grid.specs.Axis.{within, ◌to◌}
 use Rattle.grid.specs.Rules.{InRange}
 use Rattle.grid.specs.declared.Range.{Range}
 use Rattle.grid.proofs.AxisLaws.{in_range, within_range}
-use Rattle.sensor.specs.Sensor.{sensor_ranges, SensorRules, sensor_number_check, sensor_check, sensor_of, sensor_numbers}
+use Rattle.sensor.specs.Sensor.{sensor_ranges, SensorRules, AllSensorRules, sensor_number_check, sensor_check, sensors_check, sensor_of, sensor_numbers}
 use Rattle.sensor.specs.Fault.{sensor_fault_of}
 use Rattle.sensor.specs.declared.Sensor.{Sensor}
 
@@ -102,6 +102,19 @@ sensor_accepted s r =
       within_range _ _ r.difference,
       within_range _ _ r.span,
     )
+
+-- the same of sensors that are handed over
+pub sensors_right : (sensors : List Sensor) → sensors_check sensors ≡ accepted tt → AllSensorRules sensors
+unfolding sensors_check
+sensors_right [] e = tt
+sensors_right (sensor ∷ sensors) e =
+    let first = then_accepted (without_place (sensor_check (sensor_numbers sensor))) _ tt e in
+    (sensor_rules (sensor_numbers sensor) (placed_accepted _ _ tt first.1), sensors_right sensors first.2)
+
+pub sensors_accepted : (sensors : List Sensor) → AllSensorRules sensors → sensors_check sensors ≡ accepted tt
+unfolding sensors_check
+sensors_accepted [] r = refl
+sensors_accepted (sensor ∷ sensors) r = rw (sensor_accepted sensor r.0, sensors_accepted sensors r.1)
 
 -- ---- nine numbers are those of the sensor that they say
 -- the numbers of a list, as many as there are, from an index on

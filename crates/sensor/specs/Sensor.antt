@@ -1,6 +1,6 @@
--- Document 01, "Component data", tags 6 and 7, and document 02, C-11 (tag 9) and C-14 (32): a sensor's nine numbers.
+-- Document 01, "Component data", tags 6 and 7, and document 02, C-11 (tag 9), C-12 and C-15 (place 0) and C-14 (32): a sensor's nine numbers.
 use Rattle.std.specs.Prelude.{ℕ, List, [], ◌∷◌, length, get_or}
-use Rattle.refusal.specs.Outcome.{Outcome, refusal_with_index, require_told, first_refusal}
+use Rattle.refusal.specs.Outcome.{Outcome, accepted, ◌>>=◌, refusal_with_index, require_told, first_refusal, without_place}
 use Rattle.grid.specs.Axis.{within, ◌to◌}
 use Rattle.grid.specs.Rules.{InRange}
 use Rattle.grid.specs.declared.Range.{Range}
@@ -31,6 +31,11 @@ pub record SensorRules (s : Sensor) : Type 0 where
   pub share : InRange (0 to 1000) s.share
   pub difference : InRange (0 to 500) s.difference
   pub span : InRange (10 to 100) s.span
+
+-- every sensor keeps its rules
+abbrev pub AllSensorRules : List Sensor → Type 0
+AllSensorRules [] = Unit {0}
+AllSensorRules (sensor ∷ sensors) = SensorRules sensor × AllSensorRules sensors
 
 -- number i is in its range. Its index is told, and stands for its place.
 unfoldable pub sensor_number_check : List ℕ → ℕ → Outcome (Unit {0})
@@ -67,3 +72,14 @@ sensor_numbers s =
     ∷ s.difference
     ∷ s.span
     ∷ []
+
+-- 32 of a sensor that stands at no offset: "with place 0"
+abbrev pub check_without_place : Sensor → Outcome (Unit {0})
+check_without_place sensor = without_place (sensor_check (sensor_numbers sensor))
+
+-- the same of sensors, one after another
+unfoldable pub sensors_check : List Sensor → Outcome (Unit {0})
+sensors_check [] = accepted tt
+sensors_check (sensor ∷ sensors) = do
+  _ ← check_without_place sensor
+  sensors_check sensors

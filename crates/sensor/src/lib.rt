@@ -1,11 +1,13 @@
 // The torque sensors of tags 6, 7 and 9: their nine numbers and ranges.
 #![tactic(auto)]
 
-ghost use Rattle.std.specs.Prelude.{◌≡◌};
-ghost use Rattle.sensor.specs.Sensor.{sensor_check, sensor_of, sensor_numbers};
+ghost use Rattle.std.specs.Prelude.{◌≡◌, IfOk};
+ghost use Rattle.refusal.specs.Table.{outcome_of};
+ghost use Rattle.sensor.specs.Sensor.{sensor_check, check_without_place, sensor_of, sensor_numbers, SensorRules};
 ghost use Rattle.sensor.specs.Fault.{sensor_fault_of};
 
 use grid::Range;
+use refusal::Refusal;
 
 // The nine numbers of a sensor, in the order of the data.
 #[derive(Clone, Copy)]
@@ -125,5 +127,16 @@ impl Sensor {
             self.difference,
             self.span,
         ]
+    }
+
+    // 32, with the index, where one of its numbers is outside its range; with place 0, for a sensor that is handed over stands at no offset.
+    pub fn check(self) -> Result<(), Refusal>
+        ensures answer { outcome_of result ≡ check_without_place self }
+        ensures rules { IfOk result (λ done. SensorRules self) }
+    {
+        match sensor_fault(&self.numbers()) {
+            None => Ok(()),
+            Some(index) => Err(Refusal::SensorOutOfRange { place: 0, index }),
+        }
     }
 }

@@ -22,7 +22,7 @@ const MOST_TORQUES: usize = 8192;
 // Why a case is not answered, or not to its end.
 #[derive(Drop)]
 enum Fault {
-    // It lends more than there is, a lent map or numbers are not whole, or its letter is none of the five.
+    // It lends more than there is, a lent map, numbers or a sensor are not whole, or its letter is none of the six.
     NoCase,
     Output(io::Error),
 }
@@ -48,6 +48,7 @@ fn write_whole(out: &mut impl Write, case: &Case) -> Result<(), Fault> {
         Kind::Build => write_build(out, case)?,
         Kind::Map => write_map(out, case)?,
         Kind::Write => write_file(out, case)?,
+        Kind::Steps => write_steps(out, case.body)?,
     }
     Ok(())
 }
@@ -176,6 +177,18 @@ fn write_file(out: &mut impl Write, case: &Case) -> Result<(), Fault> {
         Err(refusal) => print::write_refusal_with_index(out, refusal)?,
     }
     write_kept(out, "file", &file, &LENT_BYTES, length.unwrap_or(0))?;
+    Ok(())
+}
+
+// The steps of a sensor at a torque.
+fn write_steps(out: &mut impl Write, body: &[u8]) -> Result<(), Fault> {
+    let mut body = body;
+    let sensor = bytes::next_sensor(&mut body).ok_or(Fault::NoCase)?;
+    let torque = bytes::next_u32(&mut body).ok_or(Fault::NoCase)?;
+    match loss::sensor_steps(sensor, torque) {
+        Ok(steps) => print::write_steps(out, steps)?,
+        Err(refusal) => print::write_refusal_with_index(out, refusal)?,
+    }
     Ok(())
 }
 

@@ -29,7 +29,7 @@ fn next_array<const N: usize>(bytes: &mut &[u8]) -> Option<[u16; N]> {
     Some(numbers)
 }
 
-fn next_sensor(bytes: &mut &[u8]) -> Option<Sensor> {
+pub fn next_sensor(bytes: &mut &[u8]) -> Option<Sensor> {
     next_array(bytes).map(Sensor::from)
 }
 

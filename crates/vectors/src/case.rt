@@ -9,6 +9,7 @@ pub enum Kind {
     Build,
     Map,
     Write,
+    Steps,
 }
 
 impl Kind {
@@ -20,6 +21,7 @@ impl Kind {
             b'b' => Some(Kind::Build),
             b'm' => Some(Kind::Map),
             b'w' => Some(Kind::Write),
+            b's' => Some(Kind::Steps),
             _ => None,
         }
     }
@@ -27,7 +29,7 @@ impl Kind {
 
 #[derive(Clone, Copy)]
 pub struct Head {
-    // None where the letter is none of the five.
+    // None where the letter is none of the six.
     kind: Option<Kind>,
     entries: u16,
     room: u32,

@@ -1,5 +1,6 @@
 // How answers are written.
 use component::{Component, Measured};
+use loss::Steps;
 use refusal::Refusal;
 use std::io::Write;
 use std::{fmt, io};
@@ -68,4 +69,16 @@ pub fn write_component(out: &mut impl Write, component: &Component) -> io::Resul
         write_measured(out, measured)?;
     }
     writeln!(out)
+}
+
+// a, b, g, h and U, in grains.
+pub fn write_steps(out: &mut impl Write, steps: Steps) -> io::Result<()> {
+    let Steps {
+        temperature_on_sensitivity: a,
+        temperature_on_zero: b,
+        calibration: g,
+        parasitic_loads: h,
+        uncertainty,
+    } = steps;
+    writeln!(out, "steps {a} {b} {g} {h} {uncertainty}")
 }

@@ -4,6 +4,7 @@ mod answers;
 mod examples;
 #[path = "../parsed/mod.rs"]
 mod parsed;
+mod steps;
 mod streams;
 mod usage;
 mod write;

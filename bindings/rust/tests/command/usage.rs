@@ -13,6 +13,7 @@ fn help() {
         "axle nearest FILE SPEED TORQUE ",
         "axle check FILE ",
         "axle write NUMBERS ",
+        "axle steps N w z c k s p d R TORQUE ",
         "  kind  ",
         "  row  ",
         "rpm",
@@ -48,7 +49,7 @@ fn assert_wrong_usage(arguments: &[&str], what: &str, usage: &str) {
 
 #[test]
 fn no_command() {
-    let usage = "axle list|loss|nearest|check|write .., or axle --help";
+    let usage = "axle list|loss|nearest|check|write|steps .., or axle --help";
     assert_wrong_usage(&[], "no command given", usage);
     assert_wrong_usage(&["lists"], "unknown command \"lists\"", usage);
     assert_wrong_usage(&["", STANDARD], "unknown command \"\"", usage);

@@ -16,8 +16,8 @@ pub sum-requires-clause-fits : goal.sum-requires-clause-fits
 sum-requires-clause-fits c =
     fits_by_from_yields_list (λ v. v * v) c.args.parts.now c.map.result (2 ^ 64) (YieldsList-from_map _ (λ v. v * v) (YieldsList-from_slice c.args.parts.now cc) c.map.ensures.closure (λ x r q k. search (rules, tests))) (rw (squares_are c.args.parts.now) c.requires)
 
-pub returns-clause-uncertainty : goal.returns-clause-uncertainty
+pub returns : goal.returns
 unfolding loss_uncertainty
-returns-clause-uncertainty c =
+returns c =
     let squares = sum_by_from_yields_List (λ v. v * v) c.args.parts.now c.map.result _ c.sum.ensures.ran (YieldsList-from_map _ (λ v. v * v) (YieldsList-from_slice c.args.parts.now cc) c.map.ensures.closure (λ x r q k. search (rules, tests))) in
     c.root_up.ensures ∙ ap root_up (squares ∙ squares_are c.args.parts.now)

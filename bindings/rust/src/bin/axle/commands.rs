@@ -1,11 +1,11 @@
 //! The words of the command, in one table, and what each answers.
 
 use crate::failure::Failure;
-use crate::numbers::{hundredths, SPEED, TORQUE};
+use crate::numbers::{hundredths, short, Quantity, SPEED, TORQUE};
 use crate::numbers_text;
 use crate::sensors;
 use crate::streams;
-use axle::Map;
+use axle::{Map, Sensor};
 use std::cmp::Ordering;
 use std::ffi::{OsStr, OsString};
 use std::os::unix::ffi::OsStrExt;
@@ -49,6 +49,12 @@ pub const COMMANDS: &[Command] = &[
         arguments: &["NUMBERS"],
         help: "the component data that says these numbers",
         function: write,
+    },
+    Command {
+        name: "steps",
+        arguments: &STEPS_ARGUMENTS,
+        help: "the steps of a sensor's uncertainty, in grains",
+        function: steps,
     },
 ];
 
@@ -146,4 +152,31 @@ fn write(arguments: &[OsString]) -> Result<Vec<u8>, Failure> {
         refusal,
         sensor: sensors::in_numbers(&numbers, &refusal),
     })
+}
+
+/// The letters of a sensor's numbers in the order of the data, and the torque.
+const STEPS_ARGUMENTS: [&str; 10] = ["N", "w", "z", "c", "k", "s", "p", "d", "R", TORQUE.name];
+
+/// Document 01's letters of the steps, in the order of `Steps::in_order`.
+const STEPS: [&str; 5] = ["a", "b", "g", "h", "U"];
+
+/// A number that is too large for the library is the largest that it takes, which is refused too.
+fn steps(arguments: &[OsString]) -> Result<Vec<u8>, Failure> {
+    let capped = |quantity: Quantity, text| quantity.capped(text).map_err(Failure::Failed);
+    let mut numbers = [0; 9];
+    for ((number, name), text) in numbers.iter_mut().zip(STEPS_ARGUMENTS).zip(arguments) {
+        let quantity = Quantity {
+            name,
+            form: "whole number",
+            digits: 0,
+        };
+        *number = short(capped(quantity, text)?);
+    }
+    let torque = capped(TORQUE, &arguments[numbers.len()])?;
+    let steps = Sensor::from(numbers).steps(torque)?;
+    let lines = STEPS.iter().zip(steps.in_order());
+    let lines: String = lines
+        .map(|(name, grains)| format!("{name} {grains}\n"))
+        .collect();
+    Ok(lines.into_bytes())
 }

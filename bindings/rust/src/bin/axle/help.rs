@@ -4,7 +4,8 @@ use crate::commands::COMMANDS;
 use crate::failure::Failure;
 
 const ABOUT: &str = "\
-axle: the loss map of an axle's component data, and such data made from numbers
+axle: the loss map of an axle's component data, such data made from numbers, and the
+steps of a sensor's uncertainty
 
 usage:
 ";
@@ -12,8 +13,10 @@ usage:
 const DETAILS: &str = "
 FILE     component data; - for standard input; ./-name for a name that begins with -
 SPEED    speed at the wheel in rpm, at most one digit after the point
-TORQUE   torque at the wheel in Nm, at most two digits after the point
+TORQUE   torque at the wheel in Nm, at most two digits after the point; of steps, the
+         torque that the sensor measured
 NUMBERS  a text with the numbers of component data; - for standard input
+N to R   the whole numbers of a sensor, in the order of the data
 
 A line of the text is one of these words with its numbers, set apart by blanks. Each
 word stands once, in any order, but for row. Lines that are empty or begin with # are
@@ -32,7 +35,8 @@ passed over. Every line ends with a line feed, the last too.
 
 Below the map's first torque a loss follows the line of the first two torques and
 may be negative. The nearest point is the lower one of two that are equally near, and
-the end of the axis for a point outside it.
+the end of the axis for a point outside it. Steps are printed a line each: a, b, g, h
+and U, each with its grains, of which 100 are 0.01 Nm.
 
 Answers go to standard output, refusals and failures to standard error.
 Status 0: answered. Status 1: the data, the numbers or the question is refused.
@@ -45,6 +49,7 @@ examples, in the folder examples:
   axle nearest standard.axle 150.1 500   prints 200,0
   axle check - < standard.axle
   axle write measured.numbers > new.axle
+  axle steps 10000 0 0 100 1000 0 0 0 10 340
 ";
 
 pub fn text() -> String {

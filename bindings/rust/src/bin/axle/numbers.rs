@@ -41,17 +41,21 @@ enum Fault {
 impl Quantity {
     /// The number that the library takes.
     pub fn number(&self, text: &OsStr) -> Result<u32, Failure> {
-        let number = text.to_str().ok_or(Fault::Malformed);
-        let number = number.and_then(|text| scaled(text, self.digits));
+        let number = self.scaled(text);
         number.map_err(|fault| Failure::Failed(self.message(text, fault)))
     }
 
     /// The number, or the largest there is in its place. What is wrong where the text is none.
-    pub fn capped(&self, text: &str) -> Result<u32, String> {
-        match scaled(text, self.digits) {
+    pub fn capped(&self, text: &OsStr) -> Result<u32, String> {
+        match self.scaled(text) {
             Err(Fault::TooLarge) => Ok(u32::MAX),
-            number => number.map_err(|fault| self.message(text.as_ref(), fault)),
+            number => number.map_err(|fault| self.message(text, fault)),
         }
+    }
+
+    fn scaled(&self, text: &OsStr) -> Result<u32, Fault> {
+        let number = text.to_str().ok_or(Fault::Malformed);
+        number.and_then(|text| scaled(text, self.digits))
     }
 
     fn message(&self, text: &OsStr, fault: Fault) -> String {
@@ -84,6 +88,11 @@ fn scaled(text: &str, digits: usize) -> Result<u32, Fault> {
         number.checked_mul(10)?.checked_add(digit)
     });
     number.ok_or(Fault::TooLarge)
+}
+
+/// A number of 16 bits. One that is larger becomes the largest, which no range reaches either.
+pub fn short(number: u32) -> u16 {
+    u16::try_from(number).unwrap_or(u16::MAX)
 }
 
 /// Hundredths as a number with two digits after the point.

@@ -2,7 +2,7 @@
 //! numbers. docs/FORMAT.md says what each word takes.
 
 use crate::failure::Failure;
-use crate::numbers::Quantity;
+use crate::numbers::{short, Quantity};
 use axle::{Numbers, Sensor};
 
 /// A word of the text: how its numbers are typed, and how many they are where that is fixed.
@@ -45,7 +45,7 @@ impl Word {
         }
         texts
             .iter()
-            .map(|text| self.quantity.capped(text))
+            .map(|text| self.quantity.capped(text.as_ref()))
             .collect()
     }
 }
@@ -85,11 +85,6 @@ pub fn numbers(text: &str) -> Result<Numbers, Failure> {
 
 fn unreadable(line: usize, message: String) -> Failure {
     Failure::Failed(format!("line {line}: {message}"))
-}
-
-/// A number of 16 bits. One that is larger becomes the largest, which no range reaches either.
-fn short(number: u32) -> u16 {
-    u16::try_from(number).unwrap_or(u16::MAX)
 }
 
 fn is_measured(kind: u16) -> bool {
