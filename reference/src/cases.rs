@@ -36,6 +36,8 @@ pub enum Case {
     Write { numbers: HandedNumbers, room: usize },
     /// The steps of a sensor's uncertainty, asked for its nine numbers and its torque in hundredths of Nm.
     Steps { sensor: [u16; 9], torque: u32 },
+    /// A listing loaded into so many lent entries.
+    Load { text: Vec<u8>, entries: usize },
 }
 
 impl Case {
@@ -47,6 +49,7 @@ impl Case {
             Case::Map { .. } => 'm',
             Case::Write { .. } => 'w',
             Case::Steps { .. } => 's',
+            Case::Load { .. } => 'l',
         }
     }
 
@@ -77,6 +80,7 @@ impl Case {
             } => (map.entries.len(), *room, map_bytes(map), questions),
             Case::Write { numbers, room } => (0, *room, handed_bytes(numbers), &[]),
             Case::Steps { sensor, torque } => (0, 0, steps_bytes(sensor, *torque), &[]),
+            Case::Load { text, entries } => (*entries, 0, text.clone(), &[]),
         };
         let mut bytes = vec![self.letter() as u8];
         bytes.extend((entries as u16).to_be_bytes());

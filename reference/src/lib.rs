@@ -1,8 +1,8 @@
 //! Second implementation of document 01, "Axle loss maps", with requests C-11, two
 //! half-shaft sensors, C-12, writing component data, C-13, the newton metre of the
-//! allowance at the input, C-14, which number was refused, and C-15, the steps of a
-//! sensor's uncertainty, of document 02; written from these papers alone. It renders
-//! the whole of them, for checks by running.
+//! allowance at the input, C-14, which number was refused, C-15, the steps of a
+//! sensor's uncertainty, and C-16, a listing taken in, of document 02; written from
+//! these papers alone. It renders the whole of them, for checks by running.
 //! Beside it: traces of single numbers; a generator of component data and
 //! questions, and what it takes to compare the answers with those of the proved
 //! libraries; cases whose exact entries are printed; and the examples.
@@ -10,6 +10,7 @@
 pub mod component;
 pub mod exact;
 pub mod listing;
+pub mod loader;
 pub mod lookup;
 pub mod loss;
 pub mod map;
@@ -33,6 +34,11 @@ pub mod examples;
 pub mod faults;
 pub mod handed_numbers;
 pub mod lent_maps;
+pub mod load_cases;
+pub mod load_faults;
+pub mod load_pairs;
+pub mod load_tally;
+pub mod load_texts;
 pub mod numbers_text;
 pub mod questions;
 pub mod random;

@@ -4,7 +4,8 @@ use crate::lookup::{self, LentMap};
 use crate::map;
 use crate::refusal::Refusal;
 
-const HEADER: &str = "speed,torque,loss\n";
+/// The first line, without its line feed.
+pub(crate) const HEADER: &str = "speed,torque,loss";
 
 /// As much of standard input as counts.
 pub const LONGEST_INPUT: usize = 32_768;
@@ -15,7 +16,7 @@ pub const MOST_ENTRIES: usize = 32 * 64;
 /// The listing of a map, written into a buffer of so many bytes.
 pub fn listing(map: &LentMap, room: usize) -> Result<Vec<u8>, Refusal> {
     let map = lookup::test_map(map)?;
-    let mut text = String::from(HEADER);
+    let mut text = format!("{HEADER}\n");
     for (index, entry) in map.entries.iter().enumerate() {
         let speed = map.speeds[index / map.torques.len()];
         let torque = map.torques[index % map.torques.len()];

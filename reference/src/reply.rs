@@ -5,6 +5,8 @@ use crate::cases::Case;
 use crate::component::{self, Component, Kind};
 use crate::exact::{ExactMap, Verdict};
 use crate::listing::{listing, listing_of_data, report_of};
+use crate::load_tally::LoadTally;
+use crate::loader::{self, trimmed};
 use crate::lookup::{self, LentMap};
 use crate::loss::SensorSteps;
 use crate::map::{self, Map};
@@ -15,7 +17,7 @@ use crate::steps;
 use crate::steps_tally::StepsTally;
 use crate::writer::{self, HandedNumbers};
 use std::collections::{BTreeMap, BTreeSet};
-use std::fmt::Write;
+use std::fmt::{Display, Write};
 use std::hash::{BuildHasher, BuildHasherDefault, DefaultHasher};
 
 /// The largest and the smallest excess over the exact value, in millionths of a hundredth of Nm.
@@ -74,7 +76,7 @@ impl Writes {
 #[derive(Default)]
 pub struct Seen {
     pub cases: BTreeMap<char, u64>,
-    /// Those of writes and of steps are apart.
+    /// Those of writes, of steps and of loads are apart.
     pub refusals: BTreeMap<u8, u64>,
     pub places: BTreeMap<u8, BTreeSet<usize>>,
     /// Maps built, by the number of their kind.
@@ -90,6 +92,7 @@ pub struct Seen {
     pub writes: Writes,
     pub refused_numbers: RefusedNumbers,
     pub steps: StepsTally,
+    pub loads: LoadTally,
 }
 
 impl Seen {
@@ -143,6 +146,68 @@ pub fn reply(case: &Case, seen: &mut Seen) -> Vec<u8> {
         } => map_reply(map, *room, questions, None, seen),
         Case::Write { numbers, room } => write_reply(numbers, *room, seen).into_bytes(),
         Case::Steps { sensor, torque } => steps_reply(*sensor, *torque, seen).into_bytes(),
+        Case::Load { text, entries } => load_reply(text, *entries, seen).into_bytes(),
+    }
+}
+
+/// The lent entries past the last, or all of them where there is none, are kept as they were.
+fn load_reply(text: &[u8], entries: usize, seen: &mut Seen) -> String {
+    let answer = loader::load(text, entries);
+    seen.loads.add(text, entries, &answer);
+    let kept = "entries kept\n";
+    match answer {
+        Ok(map) => {
+            let again = listed_again(text, &map);
+            seen.loads.listed_otherwise += u64::from(again != LISTED_AGAIN);
+            loaded_line(&map) + kept + again
+        }
+        Err(refusal) => refused_line(refusal) + kept,
+    }
+}
+
+/// The axes and the entries of a map, as one line.
+pub fn loaded_line(map: &Map) -> String {
+    let mut line = numbers("loaded speeds", &map.speeds);
+    line += &numbers(" torques", &map.torques);
+    line += &numbers(" entries", &map.entries);
+    line + "\n"
+}
+
+const LISTED_AGAIN: &str = "listed again\n";
+
+/// Whether the listing of a loaded map is its text without the blanks at the ends of each line.
+fn listed_again(text: &[u8], map: &Map) -> &'static str {
+    let lent = LentMap::of(map, map.entries.clone());
+    if listing(&lent, usize::MAX) == Ok(unpadded(text)) {
+        LISTED_AGAIN
+    } else {
+        "listed otherwise\n"
+    }
+}
+
+/// A text whose last line ends with a line feed, without the blanks at the ends of its lines.
+pub fn unpadded(text: &[u8]) -> Vec<u8> {
+    let without_line_feed = text.strip_suffix(b"\n").unwrap_or(text);
+    let lines = without_line_feed.split(|byte| *byte == b'\n');
+    lines
+        .flat_map(|line| [trimmed(line), b"\n"].concat())
+        .collect()
+}
+
+const LOADS_BACK: &str = "loads back\n";
+
+/// Whether the listing of a map, loaded into as many entries as it needs, gives its axes and its entries.
+fn loaded_back(map: &LentMap, text: &[u8]) -> &'static str {
+    let map = lookup::test_map(map).expect("a map that was listed");
+    let listed = Map {
+        speeds: map.speeds.to_vec(),
+        torques: map.torques.to_vec(),
+        entries: map.entries.to_vec(),
+    };
+    if loader::load(text, listed.entries.len()) == Ok(listed) {
+        LOADS_BACK
+    } else {
+        "loads otherwise\n"
     }
 }
 
@@ -245,11 +310,17 @@ fn map_reply(
     exact: Option<&ExactMap>,
     seen: &mut Seen,
 ) -> Vec<u8> {
+    let mut back = "";
     let mut text = match listing(map, room) {
-        Ok(text) => text,
+        Ok(text) => {
+            back = loaded_back(map, &text);
+            seen.loads.add_back(back == LOADS_BACK);
+            text
+        }
         Err(refusal) => seen.refused(refusal).into_bytes(),
     };
     text.extend(b"text kept\n");
+    text.extend(back.bytes());
     for question in questions {
         text.extend(question_lines(map, *question, exact, seen).bytes());
     }
@@ -296,7 +367,7 @@ fn question_lines(
     lines
 }
 
-fn numbers(name: &str, numbers: &[u16]) -> String {
+fn numbers(name: &str, numbers: &[impl Display]) -> String {
     let mut text = name.to_string();
     for number in numbers {
         let _ = write!(text, " {number}");

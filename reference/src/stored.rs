@@ -7,7 +7,7 @@ use crate::questions::Question;
 use crate::random::Source;
 use crate::reply::{reply, Excess, Seen, Writes};
 use crate::writer::HandedNumbers;
-use crate::{allowance_cases, refused_number_cases, steps_cases, valid, write_cases};
+use crate::{allowance_cases, load_cases, refused_number_cases, steps_cases, valid, write_cases};
 use std::fmt;
 
 const SEED: u64 = 20_172_400;
@@ -16,9 +16,10 @@ const WRITES_BY_CHANCE: u64 = 240;
 const ALLOWANCES_BY_CHANCE: u64 = 100;
 const REFUSED_NUMBERS_BY_CHANCE: u64 = 240;
 const STEPS_BY_CHANCE: u64 = 400;
+const LOADS_BY_CHANCE: u64 = 300;
 
-/// How many cases were written by hand before the requests C-12 to C-15.
-const WRITTEN_BY_HAND_BEFORE: [usize; 4] = [265, 315, 326, 372];
+/// How many cases were written by hand before the requests C-12 to C-16.
+const WRITTEN_BY_HAND_BEFORE: [usize; 5] = [265, 315, 326, 372, 483];
 
 /// Chosen among many: its data is accepted, no number of a sensor is 0, and most entries differ from each other.
 const MAP_PROGRAM_CASE: u64 = 8_283;
@@ -28,6 +29,9 @@ pub const REFUSALS: [u8; 17] = [1, 2, 3, 4, 5, 6, 7, 8, 9, 10, 11, 12, 20, 21, 2
 
 /// Every refusal of a write.
 pub const WRITE_REFUSALS: [u8; 11] = [3, 4, 5, 6, 7, 8, 9, 10, 30, 31, 32];
+
+/// Every refusal of a load.
+pub const LOAD_REFUSALS: [u8; 8] = [40, 41, 42, 4, 5, 6, 10, 11];
 
 const KINDS: [u8; 3] = [1, 2, 3];
 
@@ -106,6 +110,12 @@ pub fn steps_of(bytes: &[u8]) -> ([u16; 9], u32) {
     (sensor, number_of(torque) as u32)
 }
 
+/// A load: how many entries are lent, in four bytes, then the text.
+pub fn load_of(bytes: &[u8]) -> (usize, &[u8]) {
+    let (entries, text) = bytes.split_at(4);
+    (number_of(entries) as usize, text)
+}
+
 fn hand_case((letter, bytes): (char, Vec<u8>)) -> Case {
     match letter {
         'r' => Case::Read(bytes),
@@ -117,6 +127,13 @@ fn hand_case((letter, bytes): (char, Vec<u8>)) -> Case {
         's' => {
             let (sensor, torque) = steps_of(&bytes);
             Case::Steps { sensor, torque }
+        }
+        'l' => {
+            let (entries, text) = load_of(&bytes);
+            Case::Load {
+                text: text.to_vec(),
+                entries,
+            }
         }
         _ => {
             let (question, data) = question_of(&bytes);
@@ -130,11 +147,12 @@ fn hand_case((letter, bytes): (char, Vec<u8>)) -> Case {
     }
 }
 
-/// All stored cases, in their order. Those of a later request are behind all others, which thereby stay as they were before it: the writes of C-12, then the allowances of C-13, then the refused numbers of C-14, then the steps of C-15.
+/// All stored cases, in their order. Those of a later request are behind all others, which thereby stay as they were before it: the writes of C-12, then the allowances of C-13, then the refused numbers of C-14, then the steps of C-15, then the loads of C-16.
 pub fn stored_cases() -> Vec<Case> {
     let mut cases: Vec<Case> = written_by_hand().into_iter().map(hand_case).collect();
-    let [before_writes, before_allowances, before_refused_numbers, before_steps] =
+    let [before_writes, before_allowances, before_refused_numbers, before_steps, before_loads] =
         WRITTEN_BY_HAND_BEFORE;
+    let loads = cases.split_off(before_loads);
     let steps = cases.split_off(before_steps);
     let refused_numbers = cases.split_off(before_refused_numbers);
     let allowances = cases.split_off(before_allowances);
@@ -156,6 +174,10 @@ pub fn stored_cases() -> Vec<Case> {
     cases.extend(steps);
     cases.extend(steps_cases::systematic(SEED));
     cases.extend((0..STEPS_BY_CHANCE).map(|number| steps_cases::by_chance(SEED, number)));
+    cases.extend(loads);
+    cases.extend(load_cases::systematic(SEED));
+    let load = |number| load_cases::by_chance(SEED, number, false);
+    cases.extend((0..LOADS_BY_CHANCE).map(load));
     cases
 }
 
@@ -208,6 +230,7 @@ pub fn missing(seen: &Seen) -> Vec<String> {
     counts.extend(seen.allowances.counts());
     counts.extend(seen.refused_numbers.counts());
     counts.extend(seen.steps.counts());
+    counts.extend(seen.loads.counts());
     let too_few = counts.iter().filter(|(_, count)| *count < 20);
     missing.extend(too_few.map(|(name, count)| format!("{name}: {count}")));
     missing
@@ -220,11 +243,13 @@ fn refusals_and_places(seen: &Seen, number: u8) -> (u64, usize) {
     (count, places)
 }
 
-/// Entries and answers outside the limits of demand 3, and data that has other bytes when it is
-/// written again: what both programs could have in common.
+/// Entries and answers outside the limits of demand 3, data that has other bytes when it is
+/// written again, listings that load to another map, and loaded maps with another listing: what
+/// both programs could have in common.
 pub fn broken(seen: &Seen) -> u64 {
     let outside = seen.entries.outside + seen.answers.outside + seen.answers_below.outside;
-    outside + seen.written_otherwise
+    let loads = &seen.loads;
+    outside + seen.written_otherwise + loads.loaded_otherwise + loads.listed_otherwise
 }
 
 /// Millionths of a hundredth of Nm, written in hundredths.
@@ -262,6 +287,7 @@ impl fmt::Display for Seen {
             ('m', "maps lent"),
             ('w', "numbers handed to the writer"),
             ('s', "sensors asked for their steps"),
+            ('l', "texts loaded"),
         ] {
             if let Some(count) = self.cases.get(&letter) {
                 writeln!(f, "{name}: {count}")?;
@@ -285,6 +311,7 @@ impl fmt::Display for Seen {
         }
         self.writes.fmt(f)?;
         self.steps.fmt(f)?;
+        self.loads.fmt(f)?;
         self.refused_numbers.fmt(f)?;
         excess_line(f, "entries", &self.entries)?;
         excess_line(f, "answers from the first torque upwards", &self.answers)?;

@@ -1,15 +1,15 @@
-//! The cases of the comparisons at scale: one in eight by chance is a write, one is of the allowances, one is of the refused numbers; one in twenty is of steps; and all others are as they are without them. Each index of a refused number and each way in which steps end occur often enough.
+//! The cases of the comparisons at scale: one in eight by chance is a write, one is of the allowances, one is of the refused numbers; one in twenty is of steps, and one is a load; and all others are as they are without them. Each index of a refused number and each way in which steps and loads end occur often enough.
 
 use reference::at_scale::{by_chance, systematic};
 use reference::cases::{self, Case};
 use reference::reply::{reply, Seen};
-use reference::{allowance_cases, refused_number_cases, steps_cases, write_cases};
+use reference::{allowance_cases, load_cases, refused_number_cases, steps_cases, write_cases};
 
 const SEED: u64 = 1;
 
 #[test]
 fn one_case_in_eight_or_in_twenty_is_of_each_later_sequence() {
-    let mut steps_count = 0;
+    let (mut steps_count, mut load_count) = (0, 0);
     for first in (0..800).step_by(8) {
         let (mut writes, mut allowances, mut refused_numbers) = (0, 0, 0);
         for number in first..first + 8 {
@@ -22,6 +22,8 @@ fn one_case_in_eight_or_in_twenty_is_of_each_later_sequence() {
                 refused_numbers += 1;
             } else if case == steps_cases::by_chance(SEED, number).bytes() {
                 steps_count += 1;
+            } else if case == load_cases::by_chance(SEED, number, true).bytes() {
+                load_count += 1;
             } else {
                 let without_them = cases::by_chance(SEED, number, true);
                 assert_eq!(case, without_them.bytes(), "{number}");
@@ -30,12 +32,12 @@ fn one_case_in_eight_or_in_twenty_is_of_each_later_sequence() {
         let found = (writes, allowances, refused_numbers);
         assert_eq!(found, (1, 1, 1), "from {first} on");
     }
-    assert_eq!(steps_count, 800 / 20);
+    assert_eq!((steps_count, load_count), (800 / 20, 800 / 20));
 }
 
 /// A thousand in a million, of those by chance alone and of each letter alone.
 #[test]
-fn each_index_and_each_end_of_steps_occur_once_in_a_thousand_cases() {
+fn each_index_and_each_end_of_steps_and_loads_occur_once_in_a_thousand_cases() {
     const CASES: u64 = 24_000;
     let mut seen = Seen::default();
     for number in 0..CASES {
@@ -44,6 +46,7 @@ fn each_index_and_each_end_of_steps_occur_once_in_a_thousand_cases() {
     let mut counts = seen.refused_numbers.counts();
     assert_eq!(counts.len(), 4 * (1 + 9) + 9);
     counts.extend(seen.steps.counts());
+    counts.extend(seen.loads.counts());
     let least = CASES / 1_000;
     let too_few = counts.iter().filter(|(_, count)| *count < least);
     assert_eq!(too_few.collect::<Vec<_>>(), Vec::<&(String, u64)>::new());
@@ -56,6 +59,7 @@ fn systematic_cases_are_those_of_all_sequences() {
     expected.extend(allowance_cases::systematic(SEED));
     expected.extend(refused_number_cases::systematic(SEED));
     expected.extend(steps_cases::systematic(SEED));
+    expected.extend(load_cases::systematic(SEED));
     let bytes = |cases: &[Case]| -> Vec<u8> { cases.iter().flat_map(Case::bytes).collect() };
     assert_eq!(bytes(&systematic(SEED)), bytes(&expected));
 }

@@ -1,13 +1,14 @@
-//! cases/cases.txt against cases/answers.txt, which a third program reckoned in exact fractions, with the allowance of request C-13; those of kind 3, of the writer, of that request and of requests C-14 and C-15, the last ones, were reckoned by hand, but for the last one of C-13.
+//! cases/cases.txt against cases/answers.txt, which a third program reckoned in exact fractions, with the allowance of request C-13; those of kind 3, of the writer, of that request and of requests C-14 to C-16, the last ones, were reckoned by hand, but for the last one of C-13.
 
 use reference::component;
 use reference::listing::report;
+use reference::loader::load;
 use reference::lookup::{loss, nearest, LentMap};
 use reference::map;
 use reference::refusal::Refusal;
-use reference::reply::{component_line, steps_line, written_lines};
+use reference::reply::{component_line, loaded_line, steps_line, written_lines};
 use reference::steps::checked_steps;
-use reference::stored::{question_of, steps_of, write_of, written_by_hand};
+use reference::stored::{load_of, question_of, steps_of, write_of, written_by_hand};
 use reference::writer;
 
 fn refused(refusal: Refusal) -> String {
@@ -46,6 +47,11 @@ fn steps_answer(bytes: &[u8]) -> String {
     checked_steps(sensor, torque).map_or_else(refused, |steps| steps_line(&steps))
 }
 
+fn load_answer(bytes: &[u8]) -> String {
+    let (entries, text) = load_of(bytes);
+    load(text, entries).map_or_else(refused, |map| loaded_line(&map))
+}
+
 fn answer((letter, bytes): (char, Vec<u8>)) -> String {
     match letter {
         'r' => match component::read(&bytes) {
@@ -55,6 +61,7 @@ fn answer((letter, bytes): (char, Vec<u8>)) -> String {
         'm' => String::from_utf8(report(&bytes)).expect("a report is ASCII"),
         'w' => write_answer(&bytes),
         's' => steps_answer(&bytes),
+        'l' => load_answer(&bytes),
         _ => question_answer(&bytes),
     }
 }
@@ -62,7 +69,7 @@ fn answer((letter, bytes): (char, Vec<u8>)) -> String {
 #[test]
 fn answers_are_those_of_the_third_program_and_of_the_hand() {
     let cases = written_by_hand();
-    assert_eq!(cases.len(), 178 + 87 + 50 + 11 + 46 + 111);
+    assert_eq!(cases.len(), 178 + 87 + 50 + 11 + 46 + 111 + 236);
     let answers: String = cases.into_iter().map(answer).collect();
     assert_eq!(answers, include_str!("../cases/answers.txt"));
 }

@@ -10,8 +10,9 @@ use reference::stored::stored_cases;
 use std::collections::BTreeSet;
 use std::sync::LazyLock;
 
-/// How many cases were stored before those of this request. They keep their numbers.
+/// How many cases were stored before those of this request, and before the loads. They keep their numbers.
 const EARLIER_CASES: usize = 8_632;
+const CASES_BEFORE_LOADS: usize = 9_704;
 
 /// A sensor's numbers and a torque.
 type Input = ([u16; 9], u32);
@@ -64,9 +65,9 @@ fn wrong_indices(sensor: [u16; 9]) -> Vec<usize> {
 }
 
 #[test]
-fn steps_are_behind_all_other_cases() {
+fn steps_are_between_earlier_and_later_cases() {
     for (number, case) in stored_cases().iter().enumerate() {
-        let is_due = number >= EARLIER_CASES;
+        let is_due = (EARLIER_CASES..CASES_BEFORE_LOADS).contains(&number);
         assert_eq!(case.letter() == 's', is_due, "case {number}");
     }
 }

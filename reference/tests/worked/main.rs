@@ -1,7 +1,8 @@
-//! Document 01's worked cases and boundaries, and those of requests C-11 to C-15, over the public interface.
+//! Document 01's worked cases and boundaries, and those of requests C-11 to C-16, over the public interface.
 
 mod exactness;
 mod half_shafts;
+mod loads;
 mod queries;
 mod reckoned;
 mod refusals;
