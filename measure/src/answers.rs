@@ -4,8 +4,9 @@ use axle::{Grid, Numbers, Refusal, Sensor};
 use reference::cases::Case;
 use reference::component;
 use reference::lookup::{Axis, LentMap};
+use reference::map::Map;
 use reference::questions::Question;
-use reference::reply::{written_again, written_lines};
+use reference::reply::{loaded_line, unpadded, written_again, written_lines};
 use reference::writer::HandedNumbers;
 use std::fmt::Write;
 
@@ -23,7 +24,8 @@ pub struct Lent {
 impl Default for Lent {
     fn default() -> Lent {
         Lent {
-            entries: vec![LENT_ENTRY; 2_048],
+            // One more than the largest map has.
+            entries: vec![LENT_ENTRY; 2_049],
             bytes: vec![LENT_BYTE; 65_536],
         }
     }
@@ -75,8 +77,13 @@ pub fn answer(case: &Case, lent: &mut Lent) -> Vec<u8> {
         ),
         Case::Write { numbers, room } => write_answer(numbers, *room, &mut lent.bytes).into_bytes(),
         Case::Steps { sensor, torque } => steps_answer(*sensor, *torque).into_bytes(),
+        Case::Load { text, entries } => load_answer(text, *entries, lent).into_bytes(),
         Case::Read(data) | Case::Program(data) => build_answer(data, 2_048, 65_536, &[], lent),
     }
+}
+
+fn as_lent(entries: &[u32]) -> bool {
+    entries.iter().all(|entry| *entry == LENT_ENTRY)
 }
 
 fn build_answer(
@@ -86,7 +93,6 @@ fn build_answer(
     questions: &[Question],
     lent: &mut Lent,
 ) -> Vec<u8> {
-    let as_lent = |entries: &[u32]| entries.iter().all(|entry| *entry == LENT_ENTRY);
     let answer = match axle::build(data, &mut lent.entries[..entries]) {
         Err(refusal) => (refused(refusal) + &kept("entries", as_lent(&lent.entries))).into_bytes(),
         Ok(grid) => {
@@ -113,10 +119,60 @@ fn map_answer(
         Ok(length) => (bytes[..length].to_vec(), length),
         Err(refusal) => (refused(refusal).into_bytes(), 0),
     };
+    let back = (length > 0).then(|| loaded_back(grid, entries, &bytes[..length]));
     answer.extend(kept_past("text", bytes, length).bytes());
+    answer.extend(back.unwrap_or_default().bytes());
     for question in questions {
         answer.extend(question_answer(grid, entries, *question).bytes());
     }
+    answer
+}
+
+/// Whether a listing that was printed loads to its own map. No listing has no bytes.
+fn loaded_back(grid: &Grid, entries: &[u32], text: &[u8]) -> &'static str {
+    let count = grid.speed_count * grid.torque_count;
+    let mut loaded = vec![LENT_ENTRY; count];
+    let back = axle::load(text, &mut loaded);
+    let same = |axes: Grid| axes_of(&axes) == axes_of(grid) && loaded == entries[..count];
+    if back.is_ok_and(same) {
+        "loads back\n"
+    } else {
+        "loads otherwise\n"
+    }
+}
+
+/// The numbers of both axes, as far as they are counted.
+fn axes_of(grid: &Grid) -> (&[u16], &[u16]) {
+    (
+        &grid.speeds[..grid.speed_count],
+        &grid.torques[..grid.torque_count],
+    )
+}
+
+fn load_answer(text: &[u8], entries: usize, lent: &mut Lent) -> String {
+    let answer = match axle::load(text, &mut lent.entries[..entries]) {
+        Err(refusal) => refused(refusal) + &kept("entries", as_lent(&lent.entries)),
+        Ok(grid) => {
+            let (speeds, torques) = axes_of(&grid);
+            let count = speeds.len() * torques.len();
+            let (map_entries, rest) = lent.entries.split_at(count);
+            let map = Map {
+                speeds: speeds.to_vec(),
+                torques: torques.to_vec(),
+                entries: map_entries.to_vec(),
+            };
+            let length = axle::listing(&grid, map_entries, &mut lent.bytes).unwrap_or(0);
+            let again = lent.bytes[..length] == unpadded(text);
+            lent.bytes.fill(LENT_BYTE);
+            let again = if again {
+                "listed again\n"
+            } else {
+                "listed otherwise\n"
+            };
+            loaded_line(&map) + &kept("entries", as_lent(rest)) + again
+        }
+    };
+    lent.entries.fill(LENT_ENTRY);
     answer
 }
 

@@ -279,3 +279,40 @@ pub fn listing(speeds: &[u16], torques: &[u16], entries: &[u32], text: &mut Vec<
     }
     text.len()
 }
+
+/// What a text says that is taken in as a listing, its losses in hundredths.
+#[derive(Default)]
+pub struct Loaded {
+    pub speeds: Vec<u32>,
+    pub torques: Vec<u32>,
+    pub losses: Vec<u32>,
+}
+
+/// The text of a listing by `split`, `trim` and `parse`, without the tests of its runs and of its form that these do not make.
+#[inline(never)]
+pub fn load(text: &[u8], loaded: &mut Loaded) -> Option<()> {
+    let text = std::str::from_utf8(text).ok()?;
+    loaded.speeds.clear();
+    loaded.torques.clear();
+    loaded.losses.clear();
+    let mut lines = text.split_terminator('\n').map(str::trim);
+    if lines.next()? != "speed,torque,loss" {
+        return None;
+    }
+    for line in lines {
+        let mut parts = line.split(',');
+        let speed: u32 = parts.next()?.parse().ok()?;
+        let torque: u32 = parts.next()?.parse().ok()?;
+        let (whole, hundredths) = parts.next()?.split_once('.')?;
+        let whole: u32 = whole.parse().ok()?;
+        let hundredths: u32 = hundredths.parse().ok()?;
+        if loaded.speeds.last() != Some(&speed) {
+            loaded.speeds.push(speed);
+        }
+        if loaded.speeds.len() == 1 {
+            loaded.torques.push(torque);
+        }
+        loaded.losses.push(100 * whole + hundredths);
+    }
+    Some(())
+}

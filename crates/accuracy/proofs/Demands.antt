@@ -8,13 +8,14 @@ use native.Mathlib.Omega.{arith}
 use Rattle.refusal.specs.Outcome.{Told, refusal, Outcome, accepted, refused}
 use Rattle.refusal.specs.declared.Refusal.{Refusal}
 use Rattle.grid.specs.declared.Range.{Range}
+use Rattle.grid.specs.LossMap.{LossMap}
 use Rattle.fields.specs.Field.{ratio_refusal}
 use Rattle.component.specs.Component.{Component, Kind, standard, measured, sensor_tags}
 use Rattle.layout.specs.Rules.{AreBytes, sensors_start}
 use Rattle.layout.specs.Faults.{HeadFault, head_incomplete, other_tag, none_left, other_length, body_incomplete, FieldFault, in_head, in_body, NumberFault, AxisFault, TorqueFault, numbers_wrong, step_wrong, SensorFault}
 use Rattle.layout.specs.Acceptance.{Fault, in_kind, in_line, in_ratio, in_speeds, in_torques, SensorsFault, in_sensors, in_rows, after_torques, after_rows}
 use Rattle.loss.specs.Measured.{Output, Row}
-use Rattle.map.specs.Build.{LossMap, points, build}
+use Rattle.map.specs.Build.{points, build}
 use Rattle.map.specs.Acceptance.{PointFault, Reason, in_data, too_few, in_row}
 use Rattle.rows.specs.Acceptance.{OutputsFault, RowFault, input_above, output_above, off_axis, negative, too_large}
 use Rattle.std.specs.Prelude.{Some, None, Err}

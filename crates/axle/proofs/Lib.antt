@@ -1,4 +1,5 @@
 -- The crate's own laws.
 pub mod Building
+pub mod ListedMaps
 pub mod Index
 pub mod SensorSteps

@@ -26,6 +26,11 @@ abbrev pub index_or_zero : Option ℕ → ℕ
 index_or_zero None = 0
 index_or_zero (Some i) = i
 
+-- the index of an answer's refusal, where it has one
+abbrev pub index_of : {A : Type 0} → Result A Refusal → Option ℕ
+index_of (Ok value) = None
+index_of (Err x) = index x
+
 abbrev pub status_of : {A : Type 0} → Result A Refusal → Status
 status_of (Ok value) = record { refusal = 0; place = 0; has_index = 0; index = 0 }
 status_of (Err x) = record { refusal = number x; place = place x; has_index = has_index (index x); index = index_or_zero (index x) }

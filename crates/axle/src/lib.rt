@@ -12,7 +12,7 @@ ghost use Rattle.listing.specs.Listing.{listing, listed};
 ghost use Rattle.buffer.specs.Written.{content_of};
 ghost use Rattle.writer.specs.Written.{written, file_after};
 ghost use Rattle.axle.specs.Interface.{status_of, loss_of, nearest_of, length_of, written_of, steps_of, numbers_in};
-ghost use Rattle.axle.specs.Build.{BuiltOf, BuildsForC};
+ghost use Rattle.axle.specs.Build.{BuiltOf, LoadedOf, BuildsForC, LoadsForC};
 ghost use Rattle.axle.specs.Steps.{StepsForC};
 
 use cell::Point;
@@ -41,6 +41,18 @@ pub struct AxleBuilt {
     pub has_index: u32,
     pub place: usize,
     pub index: usize,
+    pub speeds: [u16; 32],
+    pub speed_count: usize,
+    pub torques: [u16; 64],
+    pub torque_count: usize,
+}
+
+// A map that was loaded: its axes. Where the load is refused the counts are 0 and the numbers mean nothing.
+#[repr(C)]
+#[derive(Clone, Copy)]
+pub struct AxleAxes {
+    pub refusal: u32,
+    pub place: usize,
     pub speeds: [u16; 32],
     pub speed_count: usize,
     pub torques: [u16; 64],
@@ -154,6 +166,25 @@ impl From<Result<Grid, Refusal>> for AxleBuilt {
             speed_count: speeds.count,
             torques: torque_numbers,
             torque_count: torques.count,
+        }
+    }
+}
+
+impl From<Result<Grid, Refusal>> for AxleAxes {
+    ghost from_gives = { λ answer loaded. LoadedOf answer loaded };
+
+    fn from(answer: Result<Grid, Refusal>) -> AxleAxes {
+        let status = status_of(&answer);
+        let grid = answer.unwrap_or_default();
+        let speeds = grid.speeds.numbers;
+        let torques = grid.torques.numbers;
+        AxleAxes {
+            refusal: status.refusal,
+            place: status.place,
+            speeds,
+            speed_count: grid.speeds.count,
+            torques,
+            torque_count: grid.torques.count,
         }
     }
 }
@@ -276,6 +307,13 @@ pub fn axle_build(data: &[u8], entries: &mut [u32]) -> AxleBuilt
     ensures { BuildsForC «data».now entries.old entries.new result }
 {
     map::build(data, entries).into()
+}
+
+// Loads a listing: the axes of its map in the answer, its entries in the lent slice.
+pub fn axle_load(text: &[u8], entries: &mut [u32]) -> AxleAxes
+    ensures { LoadsForC text.now entries.old entries.new result }
+{
+    load::load(text, entries).into()
 }
 
 // The loss at a point of a map, speed in tenths of rpm and torque in hundredths of Nm.

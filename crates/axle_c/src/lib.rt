@@ -10,10 +10,12 @@ ghost use Rattle.listing.specs.Listing.{listing, listed};
 ghost use Rattle.buffer.specs.Written.{content_of};
 ghost use Rattle.writer.specs.Written.{written, file_after};
 ghost use Rattle.axle.specs.Interface.{loss_of, nearest_of, length_of, written_of, numbers_in};
-ghost use Rattle.axle.specs.Build.{BuildsForC};
+ghost use Rattle.axle.specs.Build.{BuildsForC, LoadsForC};
 ghost use Rattle.axle.specs.Steps.{StepsForC};
 
-use axle::{AxleBuilt, AxleLength, AxleLoss, AxleNearest, AxleNumbers, AxleSteps, AxleWritten};
+use axle::{
+    AxleAxes, AxleBuilt, AxleLength, AxleLoss, AxleNearest, AxleNumbers, AxleSteps, AxleWritten,
+};
 
 // Builds the map of component data: its axes in the answer, its entries in the lent slice.
 #[unsafe(no_mangle)]
@@ -21,6 +23,14 @@ pub extern "C" fn axle_build(data: &[u8], entries: &mut [u32]) -> AxleBuilt
     ensures { BuildsForC «data».now entries.old entries.new result }
 {
     axle::axle_build(data, entries)
+}
+
+// Loads a listing: the axes of its map in the answer, its entries in the lent slice.
+#[unsafe(no_mangle)]
+pub extern "C" fn axle_load(text: &[u8], entries: &mut [u32]) -> AxleAxes
+    ensures { LoadsForC text.now entries.old entries.new result }
+{
+    axle::axle_load(text, entries)
 }
 
 // The loss at a point of a map, speed in tenths of rpm and torque in hundredths of Nm.

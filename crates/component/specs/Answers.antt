@@ -4,6 +4,7 @@ use Rattle.refusal.specs.Outcome.{Outcome}
 use Rattle.refusal.specs.Table.{outcome_as}
 use Rattle.refusal.specs.declared.Refusal.{Refusal}
 use Rattle.grid.specs.Map.{counted_numbers}
+use Rattle.grid.specs.LossMap.{CountsWithin}
 use Rattle.grid.specs.declared.Grid.{Grid}
 use Rattle.component.specs.Component.{Run, Axle as AxleSays, AxesNumbers, Rows as RowsSay, Kind, standard, measured, Component as ComponentSays, component}
 use Rattle.sensor.specs.declared.Sensor.{Sensor}
@@ -36,13 +37,6 @@ axle_of axle = record { kind = number_of axle.kind; line = axle.line; ratio = ax
 
 abbrev pub axes_of : Grid → AxesNumbers
 axes_of grid = record { speeds = counted_numbers grid.speeds; torques = counted_numbers grid.torques }
-
--- no axis has more numbers than it has places
-pub record CountsWithin (grid : Grid) : Type 0 where
-  pub speeds : grid.speeds.count ≤ 32
-  pub torques : grid.torques.count ≤ 64
-  pub speeds_length : length (counted_numbers grid.speeds) ≡ grid.speeds.count
-  pub torques_length : length (counted_numbers grid.torques) ≡ grid.torques.count
 
 abbrev pub rows_of : Rows → RowsSay
 rows_of rows = record { start = rows.start; bytes = rows.bytes.now }

@@ -4,8 +4,9 @@
 ghost use Rattle.std.specs.Prelude.{false, ◌≡◌, ◌+◌, ◌*◌, ◌≤◌, length, IfOk, IfSome, MatchOption};
 ghost use Rattle.refusal.specs.Table.{outcome_as};
 ghost use Rattle.grid.specs.Axis.{◌to◌, within};
+ghost use Rattle.grid.specs.LossMap.{CountsWithin};
 ghost use Rattle.component.specs.Component.{output_tags, rows_tag, row_length, kind_number, axle_fields, axes_fields, sensor_fields, measured_fields, kind_fields};
-ghost use Rattle.component.specs.Answers.{number_of, RunOf, axle_of, axes_of, CountsWithin, outputs_in, measured_in, kind_in, RowsWithin, Reads};
+ghost use Rattle.component.specs.Answers.{number_of, RunOf, axle_of, axes_of, outputs_in, measured_in, kind_in, RowsWithin, Reads};
 
 mod rows;
 

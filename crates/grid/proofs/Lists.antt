@@ -1,12 +1,12 @@
 -- Laws of lists that are given by their indices, and of joined lists. Assumes nothing.
 use Prim.Native.Nat.{ℕ, zero, suc, ◌*◌, ◌<◌}
 use Rattle.grid.specs.Lists.{joined, tabulate}
-use lib.ListN.{length, drop, length-append, take}
-use lib.Seq.{take_at, drop_at}
-use mathlib.Core.List.{List, ◌++◌, append_assoc}
+use lib.ListN.{length, get_or, drop, length-append, take, get_or-append}
+use lib.Seq.{take_at, drop_at, get_or_at}
+use mathlib.Core.List.{List, [], ◌∷◌, ◌++◌, append_assoc}
 use mathlib.Core.Logic.{⊎_elim}
 use mathlib.Core.Path.{◌≡◌, refl, sym, ◌∙◌, ap}
-use native.Mathlib.Nat.{zero-mul, suc-mul, eq-or-lt_of_le, le_of_suc-le-suc}
+use native.Mathlib.Nat.{zero-mul, suc-mul, not-suc-le-zero, eq-or-lt_of_le, le_of_suc-le-suc}
 use native.Mathlib.Omega.{arith}
 
 -- ---- as many as are asked for
@@ -22,6 +22,18 @@ length_joined f n (suc m) e =
     let h = length_joined f n m (λ s l. e s (omega arith)) in
     let k : length (f m) ≡ n = e m (omega arith) in
     simp (length-append, h, k, suc-mul)
+
+-- ---- what stands at an index
+pub tabulate_at : (f : ℕ → ℕ) (n j : ℕ) → j < n → get_or (tabulate f n) j 0 ≡ f j
+unfolding tabulate
+tabulate_at f zero j h = absurd (not-suc-le-zero h)
+tabulate_at f (suc n) j h =
+    ⊎_elim
+    (λ e. rw e (get_or_at (tabulate f n) (f n) [] 0 n (length_tabulate f n)))
+    (λ l.
+    let k : j < length (tabulate f n) = rw (length_tabulate f n) l in
+    get_or-append (tabulate f n) (f n ∷ []) 0 j k ∙ tabulate_at f n j l)
+    (eq-or-lt_of_le (le_of_suc-le-suc h))
 
 -- ---- the same elements
 pub tabulate_same : (f g : ℕ → ℕ) → ((i : ℕ) → f i ≡ g i) → (count : ℕ) → tabulate f count ≡ tabulate g count

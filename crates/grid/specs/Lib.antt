@@ -6,3 +6,4 @@ pub mod Fault
 pub mod Map
 pub mod Parts
 pub mod Counted
+pub mod LossMap

@@ -192,7 +192,7 @@ pub fn counted<const N: usize>(axis: &Axis<N>) -> Option<&[u16]>
 }
 
 // Whether an axis has two numbers or more, no more than it has places, each in its range and above the one before.
-fn axis_valid<const N: usize>(axis: &Axis<N>, range: Range) -> bool
+pub fn axis_valid<const N: usize>(axis: &Axis<N>, range: Range) -> bool
     ensures { result ≡ valid_numbers N range axis.now.numbers axis.now.count }
 {
     counted(axis).is_some_and(|numbers| numbers_valid(numbers, range))

@@ -12,15 +12,16 @@ use Rattle.refusal.specs.declared.Refusal.TheVariants.{TooShort}
 use Rattle.grid.specs.Lists.{joined, overwritten}
 use Rattle.grid.specs.Map.{counted_numbers}
 use Rattle.grid.proofs.Lists.{length_tabulate, length_joined}
+use Rattle.grid.specs.LossMap.{CountsWithin, EntriesWritten}
 use Rattle.component.specs.Component.{component}
-use Rattle.component.specs.Answers.{CountsWithin, component_of, output_sensors, rows_of}
+use Rattle.component.specs.Answers.{component_of, output_sensors, rows_of}
 use Rattle.component.specs.declared.Component.{Component}
 use Rattle.component.specs.declared.Measured.{Measured}
 use Rattle.rows.specs.Answers.{speed_part_check, speed_part_entries, bench_with, bench_of}
 use Rattle.rows.specs.declared.Bench.{Bench}
 use Rattle.rows.proofs.RowParts.{speed_size}
 use Rattle.map.specs.Build.{points, entries, rows_check, build}
-use Rattle.map.specs.Answers.{standard_row, EntriesWritten, BuildsEntries, Builds}
+use Rattle.map.specs.Answers.{standard_row, BuildsEntries, Builds}
 use Rattle.map.proofs.Maps.{too_few, rows_refused, rows_fine, standard_checked, standard_entries, measured_checked, measured_entries}
 
 module _ (c : Component) (counts : CountsWithin c.grid) (torques : List ℕ) (e : torques ≡ counted_numbers c.grid.torques) where

@@ -2,18 +2,18 @@
 use Prim.Native.Nat.{ℕ, zero, suc, ◌+◌, ◌*◌, ◌/◌, ◌%◌, ◌≤◌, ◌<◌}
 use mathlib.Core.Path.{◌≡◌, sym, ap, ◌∙◌}
 use mathlib.Core.Bool.{true}
-use mathlib.Core.List.{List, [], ◌∷◌}
+use mathlib.Core.List.{List}
 use mathlib.Core.Logic.{⊎_elim}
 use native.Mathlib.Omega.{arith}
 use native.Mathlib.Nat.{eq-or-lt_of_le, le_of_suc-le-suc, not-suc-le-zero, div-add-mod', mod-lt, div-lt_iff_lt-mul}
 use borrow.Author.Tests.{leb-true}
 use lib.Dec.{leb}
 use lib.ListN.{length, get_or, take, length-take, get_or-append}
-use lib.Seq.{get_or_at, get_or-append-add, get_or-take}
+use lib.Seq.{get_or-append-add, get_or-take}
 use Rattle.refusal.specs.Outcome.{accepted}
 use Rattle.refusal.proofs.Steps.{same_value, then_accepted, test_accepted, placed_accepted}
 use Rattle.refusal.proofs.First.{first_all}
-use Rattle.grid.specs.Lists.{tabulate, joined}
+use Rattle.grid.specs.Lists.{joined}
 use Rattle.std.proofs.Common.{Ok}
 use Rattle.grid.specs.Map.{valid_map}
 use Rattle.grid.specs.declared.Grid.{Grid}
@@ -24,24 +24,14 @@ use Rattle.component.specs.Component.{Component, Kind, standard, measured, compo
 use Rattle.rows.proofs.Acceptance.{row_right}
 use Rattle.layout.specs.Rules.{AreBytes, Rules}
 use Rattle.layout.proofs.Theorems.{sound}
-use Rattle.map.specs.Build.{LossMap, points, torque_count, entry, entry_of_kind, check, check_of_kind, speed_check, rows_check, speed_entries, entries, map_of, build}
-use Rattle.map.specs.Answers.{map_left, Builds}
-use Rattle.grid.proofs.Lists.{length_tabulate, length_joined}
+use Rattle.map.specs.Build.{points, torque_count, entry, entry_of_kind, check, check_of_kind, speed_check, rows_check, speed_entries, entries, map_of, build}
+use Rattle.map.specs.Answers.{Builds}
+use Rattle.grid.proofs.Lists.{tabulate_at, length_tabulate, length_joined}
 use Rattle.grid.proofs.Points.{row_within}
+use Rattle.grid.specs.LossMap.{LossMap, map_left}
 use Rattle.map.proofs.StandardRows.{standard_most}
 
 -- ---- what stands at an index of the entries
-pub tabulate_at : (f : ℕ → ℕ) (n j : ℕ) → j < n → get_or (tabulate f n) j 0 ≡ f j
-unfolding tabulate
-tabulate_at f zero j h = absurd (not-suc-le-zero h)
-tabulate_at f (suc n) j h =
-    ⊎_elim
-    (λ e. rw e (get_or_at (tabulate f n) (f n) [] 0 n (length_tabulate f n)))
-    (λ l.
-    let k : j < length (tabulate f n) = rw (length_tabulate f n) l in
-    get_or-append (tabulate f n) (f n ∷ []) 0 j k ∙ tabulate_at f n j l)
-    (eq-or-lt_of_le (le_of_suc-le-suc h))
-
 pub joined_at : (f : ℕ → List ℕ) (n m : ℕ) → ((s : ℕ) → s < m → length (f s) ≡ n) → (s j : ℕ) → s < m → j < n → get_or (joined f m) (s * n + j) 0 ≡ get_or (f s) j 0
 unfolding joined
 joined_at f n zero e s j h l = absurd (not-suc-le-zero h)

@@ -1,12 +1,13 @@
 -- A build is accepted exactly when no refusal applies: 1 to 6, 12, 31 and 32 as in the reading of the data, 11, and 7 to 10 said of each row.
 use Rattle.std.specs.Prelude.{ℕ, ◌+◌, ◌≤◌, ◌<◌, ◌≡◌, List, length, get_or}
 use Rattle.refusal.specs.Outcome.{refusal, Told, accepted, refused}
+use Rattle.grid.specs.LossMap.{LossMap}
 use Rattle.component.specs.Component.{Component, Kind, standard, measured}
 use Rattle.layout.specs.Layout.{layout}
 use Rattle.layout.specs.Rules.{AreBytes, Rules}
 use Rattle.layout.specs.Acceptance.{Fault}
 use Rattle.rows.specs.Acceptance.{RowRules, RowFault}
-use Rattle.map.specs.Build.{LossMap, points, torque_count, point_start, point_row, entries, build}
+use Rattle.map.specs.Build.{points, torque_count, point_start, point_row, entries, build}
 
 -- ---- the row of a point; standard data has none
 abbrev pub PointRules : Component → (speed torque : ℕ) → Kind → Type 0

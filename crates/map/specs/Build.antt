@@ -1,9 +1,10 @@
 -- Document 01, "Refusals" and "Code places and language forms": the build of a map. The data is read to its end (1 to 6, 12, 31, 32), then 11 is tested, then the rows.
 use Rattle.std.specs.Prelude.{ℕ, ◌+◌, ◌*◌, List, leb, length, get_or}
-use Rattle.refusal.specs.Outcome.{Outcome, accepted, refused, ◌>>=◌, require, placed, first_refusal}
+use Rattle.refusal.specs.Outcome.{Outcome, accepted, ◌>>=◌, require, placed, first_refusal}
 use Rattle.component.specs.Component.{Component, Rows, Kind, standard, measured, sensor_count, row_length, component}
 use Rattle.loss.specs.Standard.{standard_entry}
-use Rattle.grid.specs.Lists.{tabulate, joined, overwritten}
+use Rattle.grid.specs.Lists.{tabulate, joined}
+use Rattle.grid.specs.LossMap.{LossMap}
 use Rattle.sensor.specs.declared.Sensor.{Sensor}
 use Rattle.loss.specs.Measured.{Row, measured_entry}
 use Rattle.rows.specs.Rows.{Bench, row_at, row_check}
@@ -62,12 +63,6 @@ speed_entries c speed = tabulate (entry c speed) (torque_count c)
 unfoldable pub entries : Component → List ℕ
 entries c = joined (speed_entries c) (length c.speeds)
 
--- a map that was built
-pub record LossMap : Type 0 where
-  pub speeds : List ℕ
-  pub torques : List ℕ
-  pub entries : List ℕ
-
 -- what is built of data that was read, where so many entries are lent: 11 is tested before the rows
 unfoldable pub map_of : Component → ℕ → Outcome LossMap
 map_of c lent = do
@@ -80,8 +75,3 @@ unfoldable pub build : List ℕ → ℕ → Outcome LossMap
 build bytes lent = do
   c ← component bytes
   map_of c lent
-
--- the lent entries at exit: as they were where the build is refused, else with the entries of the map in place of the first ones
-abbrev pub content : Outcome LossMap → List ℕ → List ℕ
-content (accepted m) lent = overwritten m.entries lent
-content (refused t) lent = lent

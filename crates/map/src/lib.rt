@@ -5,11 +5,12 @@ ghost use Rattle.std.specs.Prelude.{◌≡◌, ◌+◌, ◌*◌, ◌≤◌, leng
 ghost use Rattle.refusal.specs.Outcome.{first_refusal};
 ghost use Rattle.refusal.specs.Table.{outcome_of};
 ghost use Rattle.grid.specs.Lists.{tabulate, joined, overwritten};
-ghost use Rattle.component.specs.Answers.{CountsWithin, component_of};
+ghost use Rattle.grid.specs.LossMap.{CountsWithin, EntriesWritten};
+ghost use Rattle.component.specs.Answers.{component_of};
 ghost use Rattle.layout.specs.Rules.{Rules};
 ghost use Rattle.rows.specs.Rows.{row_start};
 ghost use Rattle.rows.specs.Answers.{speed_part_check, speed_part_entries, bench_of};
-ghost use Rattle.map.specs.Answers.{stretch, standard_at, standard_row, EntriesWritten, BuildsEntries, Builds};
+ghost use Rattle.map.specs.Answers.{stretch, standard_at, standard_row, BuildsEntries, Builds};
 
 use component::{Component, Rows};
 use grid::Grid;

@@ -3,10 +3,10 @@ use Prim.Native.Nat.{◌≤◌}
 use native.Mathlib.Omega.{arith}
 use Rattle.refusal.specs.Table.{number}
 use Rattle.refusal.specs.declared.Refusal.{Refusal}
-use Rattle.refusal.specs.declared.Refusal.TheVariants.{Incomplete, WrongTag, WrongLength, OutOfRange, NotRising, FirstTorqueAboveStep, AboveNominal, OffAxisTorque, NegativeLoss, EntryTooLarge, TooShort, TrailingBytes, SpeedOutside, TorqueAbove, NotAMap, FileTooShort, RatioOutOfRange, SensorOutOfRange}
+use Rattle.refusal.specs.declared.Refusal.TheVariants.{Incomplete, WrongTag, WrongLength, OutOfRange, NotRising, FirstTorqueAboveStep, AboveNominal, OffAxisTorque, NegativeLoss, EntryTooLarge, TooShort, TrailingBytes, SpeedOutside, TorqueAbove, NotAMap, FileTooShort, RatioOutOfRange, SensorOutOfRange, WrongHeader, WrongLine, BrokenRun}
 
--- each is from 1 to 32
-pub number_between : (x : Refusal) → (1 ≤ number x) × (number x ≤ 32)
+-- each is from 1 to 42
+pub number_between : (x : Refusal) → (1 ≤ number x) × (number x ≤ 42)
 number_between (Incomplete p) = (omega arith, omega arith)
 number_between (WrongTag p) = (omega arith, omega arith)
 number_between (WrongLength p) = (omega arith, omega arith)
@@ -25,3 +25,6 @@ number_between NotAMap = (omega arith, omega arith)
 number_between (FileTooShort p) = (omega arith, omega arith)
 number_between (RatioOutOfRange p) = (omega arith, omega arith)
 number_between (SensorOutOfRange p i) = (omega arith, omega arith)
+number_between WrongHeader = (omega arith, omega arith)
+number_between (WrongLine p) = (omega arith, omega arith)
+number_between (BrokenRun p) = (omega arith, omega arith)

@@ -1,8 +1,8 @@
--- Document 01, "Refusals", and document 02, C-12 (30) and C-14 (31, 32): the number and the place of each case, and which number of its field it was. Where no place is given it is 0.
+-- Document 01, "Refusals", and document 02, C-12 (30), C-14 (31, 32) and C-16 (40 to 42): the number and the place of each case, and which number of its field it was. Where no place is given it is 0.
 use Rattle.std.specs.Prelude.{ℕ, Option, Some, None, Result, Ok, Err}
 use Rattle.refusal.specs.Outcome.{Told, Outcome, accepted, refused}
 use Rattle.refusal.specs.declared.Refusal.{Refusal}
-use Rattle.refusal.specs.declared.Refusal.TheVariants.{Incomplete, WrongTag, WrongLength, OutOfRange, NotRising, FirstTorqueAboveStep, AboveNominal, OffAxisTorque, NegativeLoss, EntryTooLarge, TooShort, TrailingBytes, SpeedOutside, TorqueAbove, NotAMap, FileTooShort, RatioOutOfRange, SensorOutOfRange}
+use Rattle.refusal.specs.declared.Refusal.TheVariants.{Incomplete, WrongTag, WrongLength, OutOfRange, NotRising, FirstTorqueAboveStep, AboveNominal, OffAxisTorque, NegativeLoss, EntryTooLarge, TooShort, TrailingBytes, SpeedOutside, TorqueAbove, NotAMap, FileTooShort, RatioOutOfRange, SensorOutOfRange, WrongHeader, WrongLine, BrokenRun}
 
 abbrev pub number : Refusal → ℕ
 number (Incomplete p) = 1
@@ -23,6 +23,9 @@ number NotAMap = 22
 number (FileTooShort p) = 30
 number (RatioOutOfRange p) = 31
 number (SensorOutOfRange p i) = 32
+number WrongHeader = 40
+number (WrongLine p) = 41
+number (BrokenRun p) = 42
 
 abbrev pub place : Refusal → ℕ
 place (Incomplete p) = p
@@ -43,6 +46,9 @@ place NotAMap = 0
 place (FileTooShort p) = p
 place (RatioOutOfRange p) = p
 place (SensorOutOfRange p i) = p
+place WrongHeader = 0
+place (WrongLine p) = p
+place (BrokenRun p) = p
 
 -- "which number of the field it was, from 0": for these two, and for no other
 abbrev pub index : Refusal → Option ℕ

@@ -8,7 +8,7 @@ ghost use Rattle.refusal.specs.Table.{number, place, index, told};
 use std::fmt;
 
 // Each case holds the place that is given with it; those without one have place 0. (A struct of a kind and a place would let
-// these three have another.) The cases of a ratio and of a sensor also give which number of the field it was, from 0.
+// these have another.) The cases of a ratio and of a sensor also give which number of the field it was, from 0.
 #[derive(Clone, Copy)]
 pub enum Refusal {
     // 1: a head or a body that the end of the data cuts off. The head's offset.
@@ -47,6 +47,13 @@ pub enum Refusal {
     RatioOutOfRange(usize),
     // 32: a number of a sensor that is not in its range. The number's offset, and which of the nine it was.
     SensorOutOfRange { place: usize, index: usize },
+    // 40: a text loaded as a listing whose first line is not its header, or has no line feed.
+    WrongHeader,
+    // 41: a line of it that has not the form of a row, or no line feed. The offset of the line's first byte.
+    WrongLine(usize),
+    // 42: a row that breaks its run. The offset of its line's first byte. Or runs that are not whole, or more or fewer of them, or of
+    // their rows, than an axis has numbers. The text's length.
+    BrokenRun(usize),
 }
 
 impl Refusal {
@@ -73,6 +80,9 @@ impl Refusal {
             Refusal::FileTooShort(_) => 30,
             Refusal::RatioOutOfRange(_) => 31,
             Refusal::SensorOutOfRange { .. } => 32,
+            Refusal::WrongHeader => 40,
+            Refusal::WrongLine(_) => 41,
+            Refusal::BrokenRun(_) => 42,
         }
     }
 
@@ -95,10 +105,13 @@ impl Refusal {
             | Refusal::TrailingBytes(p)
             | Refusal::FileTooShort(p)
             | Refusal::RatioOutOfRange(p)
-            | Refusal::SensorOutOfRange { place: p, .. } => p,
+            | Refusal::SensorOutOfRange { place: p, .. }
+            | Refusal::WrongLine(p)
+            | Refusal::BrokenRun(p) => p,
             Refusal::SpeedOutside => 0,
             Refusal::TorqueAbove => 0,
             Refusal::NotAMap => 0,
+            Refusal::WrongHeader => 0,
         }
     }
 
@@ -138,6 +151,9 @@ impl Refusal {
             Refusal::SensorOutOfRange { index, .. } => {
                 Refusal::SensorOutOfRange { place: 0, index }
             }
+            Refusal::WrongHeader => Refusal::WrongHeader,
+            Refusal::WrongLine(_) => Refusal::WrongLine(0),
+            Refusal::BrokenRun(_) => Refusal::BrokenRun(0),
         }
     }
 }

@@ -17,13 +17,12 @@ use Rattle.grid.specs.Parts.{grid_of}
 use Rattle.grid.specs.declared.Grid.{Grid}
 use Rattle.grid.proofs.Lists.{joined_same}
 use Rattle.grid.proofs.Points.{row_within}
+use Rattle.grid.specs.LossMap.{CountsWithin, content, map_left}
 use Rattle.component.specs.Component.{Component, component}
-use Rattle.component.specs.Answers.{CountsWithin}
 use Rattle.layout.specs.Rules.{AreBytes}
 use Rattle.layout.proofs.Theorems.{sound}
 use Rattle.layout.proofs.Lengths.{beginning_decides}
-use Rattle.map.specs.Build.{points, build, content}
-use Rattle.map.specs.Answers.{map_left}
+use Rattle.map.specs.Build.{points, build}
 use Rattle.buffer.specs.Written.{fitted, content_of}
 use Rattle.listing.specs.Listing.{listing, rows, row, row_of_speed, refusal_line, listed}
 use Rattle.listing.proofs.Lengths.{listing_most}

@@ -5,8 +5,9 @@ use Rattle.refusal.specs.Table.{outcome_of}
 use Rattle.refusal.specs.declared.Refusal.{Refusal}
 use Rattle.grid.specs.Lists.{overwritten}
 use Rattle.grid.specs.Parts.{grid_of}
+use Rattle.grid.specs.LossMap.{LossMap, content}
 use Rattle.layout.specs.Rules.{AreBytes}
-use Rattle.map.specs.Build.{LossMap, build, content}
+use Rattle.map.specs.Build.{build}
 use Rattle.listing.specs.Listing.{listing, refusal_line}
 use Rattle.buffer.specs.Written.{fitted, content_of}
 

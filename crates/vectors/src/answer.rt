@@ -9,10 +9,10 @@ use numbers::Numbers;
 use refusal::Refusal;
 use sensor::Sensor;
 use std::io;
-use std::io::Write;
+use std::io::{Cursor, Write};
 
-// What may be lent, as it is before.
-static LENT_ENTRIES: [u32; 2048] = [0xA5A5_A5A5; 2048];
+// What may be lent, as it is before: one entry more than the largest map has.
+static LENT_ENTRIES: [u32; 2049] = [0xA5A5_A5A5; 2049];
 
 static LENT_BYTES: [u8; 65_536] = [0xA5; 65_536];
 
@@ -22,7 +22,7 @@ const MOST_TORQUES: usize = 8192;
 // Why a case is not answered, or not to its end.
 #[derive(Drop)]
 enum Fault {
-    // It lends more than there is, a lent map, numbers or a sensor are not whole, or its letter is none of the six.
+    // It lends more than there is, a lent map, numbers or a sensor are not whole, or its letter is none of the seven.
     NoCase,
     Output(io::Error),
 }
@@ -49,6 +49,7 @@ fn write_whole(out: &mut impl Write, case: &Case) -> Result<(), Fault> {
         Kind::Map => write_map(out, case)?,
         Kind::Write => write_file(out, case)?,
         Kind::Steps => write_steps(out, case.body)?,
+        Kind::Load => write_loading(out, case)?,
     }
     Ok(())
 }
@@ -110,10 +111,96 @@ fn write_answers(
     let length = listing::write(grid, entries, lent);
     write_text(out, length, &text)?;
     write_kept(out, "text", &text, &LENT_BYTES, length.unwrap_or(0))?;
+    if let Ok(length) = length {
+        write_loaded_back(out, grid, entries, &text[..length.min(text.len())])?;
+    }
     for question in case.questions.chunks_exact(8) {
         write_answer(out, grid, entries, question)?;
     }
     Ok(())
+}
+
+// Whether a listing that was printed loads to its own map.
+fn write_loaded_back(
+    out: &mut impl Write,
+    grid: &Grid,
+    entries: &[u32],
+    text: &[u8],
+) -> io::Result<()> {
+    let mut loaded = LENT_ENTRIES;
+    let lent = loaded.get_mut(..grid.points());
+    let back = lent.and_then(|lent| {
+        let axes = load::load(text, lent).ok()?;
+        let count = axes.points();
+        Some(same_axes(&axes, grid) && lent.get(..count) == entries.get(..count))
+    });
+    if back == Some(true) {
+        writeln!(out, "loads back")
+    } else {
+        writeln!(out, "loads otherwise")
+    }
+}
+
+fn same_axes(a: &Grid, b: &Grid) -> bool {
+    a.speeds.counted_numbers() == b.speeds.counted_numbers()
+        && a.torques.counted_numbers() == b.torques.counted_numbers()
+}
+
+// The map that a listing loads to, in lent entries.
+fn write_loading(out: &mut impl Write, case: &Case) -> Result<(), Fault> {
+    let mut entries = LENT_ENTRIES;
+    let lent = entries.get_mut(..case.entries).ok_or(Fault::NoCase)?;
+    match load::load(case.body, lent) {
+        Ok(grid) => {
+            let count = grid.points();
+            let map = entries.get(..count).ok_or(Fault::NoCase)?;
+            print::write_map(out, &grid, map)?;
+            write_kept(out, "entries", &entries, &LENT_ENTRIES, count)?;
+            write_listed_again(out, &grid, map, case.body)?;
+        }
+        Err(refusal) => {
+            print::write_refusal_with_index(out, refusal)?;
+            write_kept(out, "entries", &entries, &LENT_ENTRIES, 0)?;
+        }
+    }
+    Ok(())
+}
+
+// Whether the map listed again is the text that it was loaded from, without the blanks at the ends of its lines.
+fn write_listed_again(
+    out: &mut impl Write,
+    grid: &Grid,
+    entries: &[u32],
+    text: &[u8],
+) -> io::Result<()> {
+    let mut listing = LENT_BYTES;
+    let length = listing::write(grid, entries, &mut listing).unwrap_or(0);
+    let mut unpadded = LENT_BYTES;
+    let written = write_unpadded(text, &mut unpadded);
+    if written == Some(length) && listing.get(..length) == unpadded.get(..length) {
+        writeln!(out, "listed again")
+    } else {
+        writeln!(out, "listed otherwise")
+    }
+}
+
+// Writes the lines of a text without the blanks at their ends, and answers their length. None where they do not fit, or the last
+// has no line feed.
+fn write_unpadded(text: &[u8], unpadded: &mut [u8]) -> Option<usize> {
+    let mut out = Cursor::new(unpadded);
+    let mut rest = text;
+    // No text has more lines than bytes.
+    for _ in 0..text.len() {
+        if rest.is_empty() {
+            break;
+        }
+        let (line, later) = listing_lines::first_line(rest)?;
+        out.write_all(listing_lines::trimmed(line)).ok()?;
+        out.write_all(b"\n").ok()?;
+        rest = later;
+    }
+    // fits: it is a place in the lent bytes
+    Some(out.position() as usize)
 }
 
 // The loss and the nearest point.

@@ -10,6 +10,7 @@ pub enum Kind {
     Map,
     Write,
     Steps,
+    Load,
 }
 
 impl Kind {
@@ -22,6 +23,7 @@ impl Kind {
             b'm' => Some(Kind::Map),
             b'w' => Some(Kind::Write),
             b's' => Some(Kind::Steps),
+            b'l' => Some(Kind::Load),
             _ => None,
         }
     }
@@ -29,7 +31,7 @@ impl Kind {
 
 #[derive(Clone, Copy)]
 pub struct Head {
-    // None where the letter is none of the six.
+    // None where the letter is none of the seven.
     kind: Option<Kind>,
     entries: u16,
     room: u32,

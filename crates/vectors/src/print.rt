@@ -1,5 +1,6 @@
 // How answers are written.
 use component::{Component, Measured};
+use grid::Grid;
 use loss::Steps;
 use refusal::Refusal;
 use std::io::Write;
@@ -67,6 +68,18 @@ pub fn write_component(out: &mut impl Write, component: &Component) -> io::Resul
     write_numbers(out, "torques", grid.torques.counted_numbers())?;
     if let Some(measured) = measured {
         write_measured(out, measured)?;
+    }
+    writeln!(out)
+}
+
+// A map that was loaded.
+pub fn write_map(out: &mut impl Write, grid: &Grid, entries: &[u32]) -> io::Result<()> {
+    write!(out, "loaded")?;
+    write_numbers(out, "speeds", grid.speeds.counted_numbers())?;
+    write_numbers(out, "torques", grid.torques.counted_numbers())?;
+    write!(out, " entries")?;
+    for entry in entries {
+        write!(out, " {entry}")?;
     }
     writeln!(out)
 }

@@ -3,11 +3,12 @@ use Rattle.std.specs.Prelude.{ℕ, ◌≡◌, List, [], ◌∷◌, ℤ, pos}
 use Rattle.refusal.specs.Outcome.{Outcome, accepted, refuse}
 use Rattle.grid.specs.Parts.{grid_of}
 use Rattle.grid.specs.declared.Grid.{Grid}
+use Rattle.grid.specs.LossMap.{LossMap}
 use Rattle.sensor.specs.declared.Sensor.{Sensor}
 use Rattle.loss.specs.Standard.{standard_entry}
 use Rattle.loss.specs.Measured.{sensor_uncertainty, sensor_steps, Row, row_uncertainty, measured_entry}
 use Rattle.rows.specs.Rows.{row_check}
-use Rattle.map.specs.Build.{LossMap, build}
+use Rattle.map.specs.Build.{build}
 use Rattle.buffer.specs.Bytes.{bytes}
 use Rattle.report.specs.Report.{report}
 use Rattle.cell.specs.declared.Point.{Point}

@@ -3,11 +3,12 @@ use Rattle.std.specs.Prelude.{ℕ, ◌*◌, ◌≤◌, ◌<◌, ◌≡◌, List,
 use Rattle.refusal.specs.Outcome.{accepted, refuse}
 use Rattle.grid.specs.Lists.{overwritten}
 use Rattle.grid.specs.Map.{counted_numbers}
+use Rattle.grid.specs.LossMap.{LossMap}
 use Rattle.component.specs.Component.{Component, component}
 use Rattle.layout.specs.Layout.{torque_bytes, torques_in}
 use Rattle.layout.specs.Rules.{AreBytes, FitFourBytes}
 use Rattle.rows.specs.Rows.{torque_at}
-use Rattle.map.specs.Build.{LossMap, build}
+use Rattle.map.specs.Build.{build}
 use Rattle.map.specs.Acceptance.{map_of_numbers}
 use Rattle.numbers.specs.Says.{says, CountsSaid, numbers_of, row_torques_of}
 use Rattle.numbers.specs.declared.Numbers.{Numbers}

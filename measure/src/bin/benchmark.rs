@@ -9,7 +9,8 @@ use reference::lookup::{self, LentMap};
 use reference::questions::Question;
 use reference::random::Source;
 use reference::writer::{self, HandedNumbers};
-use reference::{bench_run, component, listing, map};
+use reference::{bench_run, component, listing, loader, map};
+use std::fmt::Write;
 use std::hint::black_box;
 use std::time::Instant;
 
@@ -487,6 +488,32 @@ fn measure_listing(what: &str, target: Target, subject: &Subject) {
     );
 }
 
+/// A load of the map's listing. Plain Rust takes it apart by `split`, `trim` and `parse`.
+fn measure_load(what: &str, target: Target, subject: &Subject) {
+    let text = listing::listing(&subject.lent, usize::MAX).expect("it is a map");
+    let mut entries = vec![0; 2_048];
+    let mut parsed = plain::Loaded::default();
+    assert_eq!(axle::load(&text, &mut entries), Ok(subject.grid));
+    assert_eq!(entries[..subject.entries.len()], subject.entries);
+    assert_eq!(plain::load(&text, &mut parsed), Some(()));
+    assert_eq!(parsed.losses, subject.entries);
+    report(
+        what,
+        target,
+        vec![
+            way("library", 1, || {
+                let _ = black_box(axle::load(black_box(&text), &mut entries));
+            }),
+            way("Rust", 1, || {
+                black_box(plain::load(black_box(&text), &mut parsed));
+            }),
+            way("reference", 1, || {
+                let _ = black_box(loader::load(black_box(&text), 2_048));
+            }),
+        ],
+    );
+}
+
 /// How many entries the doubles get wrong, of the measured map.
 fn wrong_doubles(subject: &Subject) -> usize {
     let hundredths = subject
@@ -521,6 +548,7 @@ fn measure_all() {
     measure_loss("loss at a point, 2 x 2", of_yardstick(1.5), &small);
     measure_nearest("nearest point, 32 x 64", &measured);
     measure_listing("listing, 32 x 64", of_yardstick(0.3), &measured);
+    measure_load("load of a listing, 32 x 64", of_yardstick(1.5), &measured);
     let (wrong, all) = (wrong_doubles(&measured), measured.entries.len());
     println!("\nEntries of the measured map that doubles get wrong: {wrong} of {all}.");
 }
@@ -574,7 +602,73 @@ fn measure_growth() {
     }
 }
 
+/// A header, and rows of a speed, a torque and a loss of 0.00, each line after these blanks.
+fn rows_text(rows: impl Iterator<Item = (usize, usize, usize)>) -> Vec<u8> {
+    let mut text = String::from("speed,torque,loss\n");
+    for (blanks, speed, torque) in rows {
+        text.extend(std::iter::repeat_n(' ', blanks));
+        let _ = writeln!(text, "{speed},{torque},0.00");
+    }
+    text.into_bytes()
+}
+
+/// Rows in runs of so many, the first row after blanks.
+fn runs_text(blanks: usize, rows: usize, run: usize) -> Vec<u8> {
+    rows_text((0..rows).map(|i| {
+        let first_blanks = if i == 0 { blanks } else { 0 };
+        (first_blanks, 1 + i / run % 2, i % run)
+    }))
+}
+
+/// A text for so many rows.
+type TextOfRows = fn(usize) -> Vec<u8>;
+
+/// How long a load takes of a text that has no wrong line and is no map, in nanoseconds.
+fn load_time(text: &[u8]) -> f64 {
+    let refused = axle::load(text, &mut []).map_err(|refusal| (refusal.number, refusal.place));
+    assert_eq!(refused, Err((42, text.len())));
+    times(&mut [way("library", 1, || {
+        let _ = black_box(axle::load(black_box(text), &mut []));
+    })])[0]
+}
+
+/// A load's time grows with the text and not faster: twice as much of each kind of text takes twice as long.
+fn measure_long_texts() {
+    println!("\n| text | bytes | load | a byte | to half of it | target |");
+    println!("|---|---|---|---|---|---|");
+    let texts: [(&str, TextOfRows); 7] = [
+        ("one run of a million rows", |rows| runs_text(0, rows, rows)),
+        ("a million runs of one row", |rows| runs_text(0, rows, 1)),
+        ("runs of 64 rows", |rows| runs_text(0, rows, 64)),
+        ("runs of 65 rows", |rows| runs_text(0, rows, 65)),
+        (
+            "runs of 2 rows, before the first five blanks for each row",
+            |rows| runs_text(5 * rows, rows, 2),
+        ),
+        (
+            "runs of 65 rows, before the first five blanks for each row",
+            |rows| runs_text(5 * rows, rows, 65),
+        ),
+        ("one row alone, before it ten blanks for each", |rows| {
+            runs_text(10 * rows, 1, 1)
+        }),
+    ];
+    for (what, text) in texts {
+        let (half, whole) = (text(500_000), text(1_000_000));
+        let time = load_time(&whole);
+        let to_half = time / load_time(&half);
+        let verdict = if to_half <= 2.5 { "reached" } else { "missed" };
+        println!(
+            "| {what} | {} | {:.1} ms | {:.2} ns | {to_half:.2} | at most 2.5: {verdict} |",
+            whole.len(),
+            time / 1e6,
+            time / whole.len() as f64
+        );
+    }
+}
+
 fn main() {
     measure_all();
     measure_growth();
+    measure_long_texts();
 }

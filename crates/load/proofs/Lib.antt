@@ -1,0 +1,12 @@
+pub mod Regular
+pub mod Lists
+pub mod Loaded
+pub mod Counting
+pub mod Telling
+pub mod TorqueDue
+pub mod Reading
+pub mod AxesMade
+pub mod Loading
+pub mod MapRows
+pub mod Printing
+pub mod Exactly
