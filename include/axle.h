@@ -19,7 +19,7 @@
    was, and `index` is that number, from 0; else both are 0. Test `has_index`: index
    0 is the first number of a field. Values stand apart from them, and a loss may be
    negative: test `refusal`, not the value. The values of a refused answer are 0; the
-   axes of a refused build have the counts 0, and their numbers mean nothing.
+   axes of a refused build or load have the counts 0, and their numbers mean nothing.
 
    Since request C-14 axle_built and axle_write_answer have these two fields, and
    so another layout: programs that use them are compiled again with this header.
@@ -33,7 +33,8 @@
    no state, so calls may run at the same time.
 
    Refusals, by number, with their place. Numbers that axle_write or axle_steps
-   refuses stand at no offset: their 3 to 10, 31 and 32 have place 0.
+   refuses stand at no offset: their 3 to 10, 31 and 32 have place 0. So have the
+   4, 5, 6 and 10 of axle_load, which tests each over the whole map.
      1 a head or a body that the end of the data cuts off; 2 another tag than the
        one due, or data that ends before the field; 3 a length that the field
        cannot have (of axle_write: a count of axis numbers or of row torques that
@@ -54,7 +55,13 @@
      31 a ratio that is not in its range: the number's offset; its index is 0
      32 a number of a sensor that is not in its range: the number's offset; its
        index is 0 to 8, of N, w, z, c, k, s, p, d, R. Of a build, the tag of the
-       sensor's field is the byte at place - 2 * index - 3 of the data */
+       sensor's field is the byte at place - 2 * index - 3 of the data
+     40 a text whose first line is not the header of a listing, or has no line
+       feed: 0
+     41 a line that has not the form of a row, or no line feed; 42 a row that breaks
+       its run: the offset of the line's first byte, blanks included. 42 also where
+       the last run is short, or there are not 2 to 64 torques or not 2 to 32
+       speeds: the text's length */
 #ifndef AXLE_H
 #define AXLE_H
 
@@ -65,8 +72,8 @@
 extern "C" {
 #endif
 
-/* No map has more speeds, torques or entries; no listing, and no file of component
-   data, has more bytes. */
+/* No map has more speeds, torques or entries; no listing that is written, and no file
+   of component data, has more bytes. */
 enum { AXLE_SPEEDS = 32, AXLE_TORQUES = 64, AXLE_ENTRIES = 2048, AXLE_TEXT = 65536,
        AXLE_FILE = 24853 };
 
@@ -80,6 +87,16 @@ typedef struct {
     uint16_t torques[64]; /* the first torque_count of them, rising */
     size_t torque_count;
 } axle_built;
+
+/* The axes of a map that was loaded. */
+typedef struct {
+    uint32_t refusal;
+    size_t place;
+    uint16_t speeds[32]; /* the first speed_count of them, rising */
+    size_t speed_count;
+    uint16_t torques[64]; /* the first torque_count of them, rising */
+    size_t torque_count;
+} axle_axes_answer;
 
 typedef struct {
     uint32_t refusal;
@@ -145,9 +162,28 @@ typedef struct {
 axle_built axle_build(const uint8_t *data, size_t data_length,
                       uint32_t *entries, size_t entry_count);
 
-/* The loss at a point of a map: never below the exact loss of the data that the
-   map was built from, and less than 3 hundredths above it; below the first
-   torque more than the exact loss less 2 hundredths, and less than it plus 5.
+/* Loads the map that a listing says, in the form that axle_listing writes: the header
+   speed,torque,loss and then rows, all of the first speed, then those of the next. A
+   line ends with one line feed, the last too; spaces and tabs at both its ends are not
+   looked at. A speed and a torque are 1 to 9 digits without leading zeros, the number
+   0 being 0, and a loss is such a number, a point and two digits. The first run of
+   rows with one speed gives the torques; each later run has as many rows, one speed
+   and the same torques in their order.
+   Entry (speed i, torque j) is written to entries[i * torque_count + j]; what stands
+   past the last is not touched, and a refusal leaves every entry as it was.
+   Every listing that axle_listing writes loads to its own map, and a loaded map listed
+   again is the text without those blanks. What was loaded is a map: no call refuses it
+   with 22. Refusals, in this order: 40; line by line 41, then 42; 42 with the text's
+   length; then, each tested over the whole map, 4, 5, 6, 10, 11. */
+axle_axes_answer axle_load(const uint8_t *text, size_t text_length,
+                           uint32_t *entries, size_t entry_count);
+
+/* The loss at a point of a map: its entries, linear in torque and in speed between
+   them, and below the first torque along the line of the first two; rounded up once.
+   Of a map from axle_build it is never below the exact loss of the data that the map
+   was built from, and less than 3 hundredths above it; below the first torque more
+   than the exact loss less 2 hundredths, and less than it plus 5. Nothing of an exact
+   loss is said of a map from axle_load: its readings are not known.
    Refusals 22, 20, 21. */
 axle_loss_answer axle_loss(const uint16_t speeds[32], size_t speed_count,
                            const uint16_t torques[64], size_t torque_count,

@@ -1,11 +1,23 @@
 //! The calls of libaxle.a, as `include/axle.h` declares them.
 
+/// The answer of a build.
 #[repr(C)]
 pub struct Built {
     pub refusal: u32,
     pub has_index: u32,
     pub place: usize,
     pub index: usize,
+    pub speeds: [u16; 32],
+    pub speed_count: usize,
+    pub torques: [u16; 64],
+    pub torque_count: usize,
+}
+
+/// The answer of a load.
+#[repr(C)]
+pub struct Axes {
+    pub refusal: u32,
+    pub place: usize,
     pub speeds: [u16; 32],
     pub speed_count: usize,
     pub torques: [u16; 64],
@@ -78,6 +90,12 @@ extern "C" {
         entries: *mut u32,
         entry_count: usize,
     ) -> Built;
+    pub fn axle_load(
+        text: *const u8,
+        text_length: usize,
+        entries: *mut u32,
+        entry_count: usize,
+    ) -> Axes;
     pub fn axle_loss(
         speeds: *const u16,
         speed_count: usize,

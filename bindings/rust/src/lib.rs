@@ -7,8 +7,8 @@
 //!
 //! Component data is of kind 1 (standard), 2 (measured with one sensor at the output) or 3
 //! (measured with one on each half-shaft, left and right). Every call takes all three alike;
-//! `docs/FORMAT.md` has them byte by byte. `Numbers` makes such data, and `Sensor::steps` answers
-//! the steps of one sensor's uncertainty.
+//! `docs/FORMAT.md` has them byte by byte. `Numbers` makes such data, `Map::load` takes in a listing,
+//! and `Sensor::steps` answers the steps of one sensor's uncertainty.
 //!
 //! ```
 //! let data = [
@@ -30,10 +30,12 @@ pub use numbers::{Numbers, Sensor};
 pub use refusal::Refusal;
 pub use steps::Steps;
 
+use std::str::FromStr;
+
 /// No map has more entries.
 pub const MAXIMUM_ENTRIES: usize = 2_048;
 
-/// No listing has more bytes.
+/// No listing that is written has more bytes.
 pub const MAXIMUM_LISTING_LENGTH: usize = 65_536;
 
 /// No component data that is accepted has more bytes.
@@ -86,8 +88,34 @@ pub fn build(data: &[u8], entries: &mut [u32]) -> Result<Grid, Refusal> {
     answered(built.refusal, built.place, index, grid)
 }
 
-/// The loss in hundredths of Nm at a speed in tenths of rpm and a torque in hundredths of Nm.
-/// It may be negative below the first torque. Refusals 22, 20, 21.
+/// Loads the map that a listing says: its axes, and its entries in hundredths of Nm in the first
+/// speeds x torques of the lent entries, in the order of the rows. Nothing is written past those,
+/// and nothing at all where the load is refused. Spaces and tabs at both ends of a line are not
+/// looked at. A listing that `listing` writes loads to its own map. Refusals 40; line by line 41 and
+/// 42; 42 with the text's length; then, of the whole map, 4, 5, 6 and 10, each at 0, and 11.
+pub fn load(text: &[u8], entries: &mut [u32]) -> Result<Grid, Refusal> {
+    // The pointers are those of slices, valid for their lengths and apart from each other.
+    let loaded = unsafe {
+        c::axle_load(
+            text.as_ptr(),
+            text.len(),
+            entries.as_mut_ptr(),
+            entries.len(),
+        )
+    };
+    let grid = Grid {
+        speeds: loaded.speeds,
+        speed_count: loaded.speed_count,
+        torques: loaded.torques,
+        torque_count: loaded.torque_count,
+    };
+    answered(loaded.refusal, loaded.place, None, grid)
+}
+
+/// The loss in hundredths of Nm at a speed in tenths of rpm and a torque in hundredths of Nm: the
+/// entries, linear in torque and in speed between them, rounded up once. It may be negative below
+/// the first torque. How near it is to the exact loss `include/axle.h` says for a map that was built;
+/// for one that was loaded nothing is said, since its readings are not known. Refusals 22, 20, 21.
 pub fn loss(grid: &Grid, entries: &[u32], speed: u32, torque: u32) -> Result<i64, Refusal> {
     // The arrays have all their places, and the entries their length.
     let answer = unsafe {
@@ -158,8 +186,29 @@ pub struct Map {
 impl Map {
     /// The map of component data. Refusals 1 to 10, 12, 31 and 32.
     pub fn build(data: &[u8]) -> Result<Map, Refusal> {
+        Map::with_entries(|entries| build(data, entries))
+    }
+
+    /// The map that a listing says, as `listing` writes it or with spaces and tabs at both ends of
+    /// its lines. Refusals 40 to 42, then 4, 5, 6 and 10, each at 0. How near its losses are to exact
+    /// ones is not said, since its readings are not known.
+    ///
+    /// ```
+    /// let text = b"speed,torque,loss\n100,0,130.00\n100,1000,150.41\n200,0,130.00\n200,1000,150.41\n";
+    /// let map = axle::Map::load(text)?;
+    /// assert_eq!(map.loss(1_000, 50_000)?, 14_021); // 140.21 Nm at 100.0 rpm and 500.00 Nm
+    /// # Ok::<(), axle::Refusal>(())
+    /// ```
+    pub fn load(text: &[u8]) -> Result<Map, Refusal> {
+        Map::with_entries(|entries| load(text, entries))
+    }
+
+    /// The map of a call that is lent the most entries that a map has.
+    fn with_entries(
+        call: impl FnOnce(&mut [u32]) -> Result<Grid, Refusal>,
+    ) -> Result<Map, Refusal> {
         let mut entries = vec![0; MAXIMUM_ENTRIES];
-        let grid = build(data, &mut entries)?;
+        let grid = call(&mut entries)?;
         entries.truncate(grid.speed_count * grid.torque_count);
         Ok(Map { grid, entries })
     }
@@ -198,6 +247,15 @@ impl Map {
         let length = listing(&self.grid, &self.entries, &mut text)?;
         text.truncate(length);
         Ok(String::from_utf8(text).expect("a listing is ASCII"))
+    }
+}
+
+/// The map that a listing says, as `Map::load` takes it in.
+impl FromStr for Map {
+    type Err = Refusal;
+
+    fn from_str(text: &str) -> Result<Map, Refusal> {
+        Map::load(text.as_bytes())
     }
 }
 

@@ -2,9 +2,10 @@
 
 use std::fmt;
 
-/// The number of a refusal and its place: an offset into the data, the count needed for 11, the
-/// length needed for 30, and 0 for a refused question and for refused numbers. It prints with its
-/// words, and with the meaning of its place.
+/// The number of a refusal and its place: an offset into the data or the text, the count needed for
+/// 11, the length needed for 30, and 0 for a refused question, for refused numbers, and for 40, 4,
+/// 5, 6 and 10 of a listing. Where the runs of a listing make no map (42), it is the text's length.
+/// It prints with its words, and with the meaning of its place.
 #[derive(Clone, Copy, PartialEq, Eq, Debug)]
 pub struct Refusal {
     pub number: u32,
@@ -72,6 +73,9 @@ impl Refusal {
             30 => "too little room for the file",
             31 => "ratio out of range",
             SENSOR_OUT_OF_RANGE => "sensor number out of range",
+            40 => "first line other than speed,torque,loss, or without its line feed",
+            41 => "line without the form of a row, or without its line feed",
+            42 => "row that breaks its run, or runs that make no map",
             _ => return None,
         })
     }
@@ -82,8 +86,8 @@ impl Refusal {
         Some((index, SENSOR_NUMBERS.get(index)?))
     }
 
-    /// What the place is, where it has a meaning. Numbers are refused with 3 to 10, 31 and 32 at 0;
-    /// data is not, but with 3 for its first field.
+    /// What the place is, where it has a meaning. Numbers are refused with 3 to 10, 31 and 32 at 0,
+    /// and a loaded map with 4, 5, 6 and 10; data is not, but with 3 for its first field.
     fn meaning_of_place(&self) -> Option<&'static str> {
         if self.place == 0 && matches!(self.number, 3..=10 | 31 | 32) {
             return None;
@@ -98,6 +102,8 @@ impl Refusal {
             11 => "the count needed",
             12 => "the first one's offset",
             30 => "the length needed",
+            41 => "the line's offset",
+            42 => "the line's offset, or the text's length",
             _ => return None,
         })
     }

@@ -1,5 +1,5 @@
 //! Every refusal of a build with its place, and how refusals print. Those of rows and sensors are
-//! tried on kind 2 here, and on kind 3 in half_shafts.rs.
+//! tried on kind 2 here, and on kind 3 in half_shafts.rs; those of a load in loading.rs.
 
 use axle::{build, Map, Refusal, READING_LIMIT};
 
@@ -160,7 +160,19 @@ fn refusals_print_by_their_words() {
         text(30, 27),
         "refused 30 at 27: too little room for the file (the length needed)"
     );
-    for number in [0, 13, 19, 23, 29, 33, u32::MAX] {
+    assert_eq!(
+        text(40, 0),
+        "refused 40 at 0: first line other than speed,torque,loss, or without its line feed"
+    );
+    assert_eq!(
+        text(41, 18),
+        "refused 41 at 18: line without the form of a row, or without its line feed (the line's offset)"
+    );
+    assert_eq!(
+        text(42, 45),
+        "refused 42 at 45: row that breaks its run, or runs that make no map (the line's offset, or the text's length)"
+    );
+    for number in [0, 13, 19, 23, 29, 33, 39, 43, u32::MAX] {
         assert_eq!(text(number, 5), format!("refused {} at 5", number));
     }
     let text = |number, place, index| of_number(number, place, index).to_string();
@@ -203,11 +215,11 @@ fn refused_numbers_print_without_an_offset() {
 #[test]
 fn every_number_has_words_of_its_own() {
     let mut all: Vec<String> = Vec::new();
-    for number in (1..=12).chain(20..=22).chain(30..=32) {
+    for number in (1..=12).chain(20..=22).chain(30..=32).chain(40..=42) {
         let text = refusal(number, 5).to_string();
         let words = text.strip_prefix(&format!("refused {} at 5: ", number));
         let words = words.expect("words").to_string();
-        let has_place = !(20..=22).contains(&number);
+        let has_place = !matches!(number, 20..=22 | 40);
         assert_eq!(words.ends_with(')'), has_place, "{}", words);
         assert!(!all.contains(&words), "{}", words);
         all.push(words);

@@ -2,6 +2,7 @@
 
 mod answers;
 mod examples;
+mod load;
 #[path = "../parsed/mod.rs"]
 mod parsed;
 mod steps;

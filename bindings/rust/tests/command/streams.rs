@@ -14,7 +14,7 @@ fn writable(name: &str) -> File {
 
 #[test]
 fn files_that_cannot_be_read() {
-    for word in ["list", "check", "write"] {
+    for word in ["list", "check", "load", "write"] {
         let missing = "axle: cannot read \"missing.axle\": No such file";
         assert_failed_with(run([word, "missing.axle"]), 2, missing);
         assert_failed_with(run([word, "."]), 2, "axle: cannot read \".\": Is a dir");
@@ -29,7 +29,7 @@ fn files_that_cannot_be_read() {
 
 #[test]
 fn standard_input_that_cannot_be_read() {
-    for word in ["list", "write"] {
+    for word in ["list", "load", "write"] {
         for stream in [File::open(".").expect("opened"), writable("/dev/null")] {
             let output = axle([word, "-"]).stdin(stream).output().expect("it runs");
             assert_failed_with(output, 2, "axle: cannot read standard input: ");
@@ -40,7 +40,12 @@ fn standard_input_that_cannot_be_read() {
 /// Data that is whole so far is not taken where the next read fails.
 #[test]
 fn a_read_that_fails_after_some_data() {
-    for (word, file) in [("list", STANDARD), ("write", "standard.numbers")] {
+    let calls = [
+        ("list", STANDARD),
+        ("load", "standard.csv"),
+        ("write", "standard.numbers"),
+    ];
+    for (word, file) in calls {
         let (mut written, read) = UnixStream::pair().expect("a pair");
         read.set_nonblocking(true).expect("set");
         let data = std::fs::read(examples_folder().join(file)).expect("read");
@@ -58,11 +63,13 @@ fn a_read_that_fails_after_some_data() {
 
 #[test]
 fn output_that_cannot_be_written() {
-    let calls: [&[&str]; 6] = [
+    let calls: [&[&str]; 8] = [
         &["list", STANDARD],
         &["loss", STANDARD, "100", "0"],
         &["nearest", STANDARD, "100", "0"],
         &["check", STANDARD],
+        &["load", "standard.csv"],
+        &["load", "--list", "standard.csv"],
         &["write", "standard.numbers"],
         &["--help"],
     ];
@@ -110,7 +117,7 @@ fn streams_that_are_closed() {
         assert_failed(run_closed(words, ">&-"), 2, closed);
     }
     let closed = "axle: cannot read standard input: it is closed\n";
-    for words in ["check -", "write -"] {
+    for words in ["check -", "load -", "load --list -", "write -"] {
         assert_failed(run_closed(words, "<&-"), 2, closed);
     }
     let listing = std::fs::read_to_string(examples_folder().join("standard.csv")).expect("read");

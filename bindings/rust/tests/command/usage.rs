@@ -12,6 +12,8 @@ fn help() {
         "axle loss FILE SPEED TORQUE ",
         "axle nearest FILE SPEED TORQUE ",
         "axle check FILE ",
+        "axle load LISTING ",
+        "axle load --list LISTING ",
         "axle write NUMBERS ",
         "axle steps N w z c k s p d R TORQUE ",
         "  kind  ",
@@ -25,6 +27,7 @@ fn help() {
     }
     assert_answered(run(["-h"]), help);
     assert_answered(run(["list", "--help"]), help);
+    assert_answered(run(["load", "--list", "--help"]), help);
 }
 
 #[test]
@@ -49,7 +52,7 @@ fn assert_wrong_usage(arguments: &[&str], what: &str, usage: &str) {
 
 #[test]
 fn no_command() {
-    let usage = "axle list|loss|nearest|check|write|steps .., or axle --help";
+    let usage = "axle list|loss|nearest|check|load|write|steps .., or axle --help";
     assert_wrong_usage(&[], "no command given", usage);
     assert_wrong_usage(&["lists"], "unknown command \"lists\"", usage);
     assert_wrong_usage(&["", STANDARD], "unknown command \"\"", usage);
@@ -68,6 +71,15 @@ fn too_few_or_too_many_arguments() {
     assert_wrong_usage(&["loss", STANDARD, "1", "2", "3"], many, usage);
     let few = "too few arguments for write";
     assert_wrong_usage(&["write"], few, "axle write NUMBERS");
+    let usage = "axle load LISTING";
+    let (few, many) = ("too few arguments for load", "too many arguments for load");
+    assert_wrong_usage(&["load"], few, usage);
+    assert_wrong_usage(&["load", "standard.csv", "--list"], many, usage);
+    let usage = "axle load --list LISTING";
+    let few = "too few arguments for load --list";
+    let many = "too many arguments for load --list";
+    assert_wrong_usage(&["load", "--list"], few, usage);
+    assert_wrong_usage(&["load", "--list", "-", "-"], many, usage);
 }
 
 #[test]
@@ -80,6 +92,10 @@ fn unknown_options() {
         "axle nearest FILE SPEED TORQUE",
     );
     assert_wrong_usage(&["write", "-x"], what, "axle write NUMBERS");
+    assert_wrong_usage(&["load", "-x"], what, "axle load LISTING");
+    assert_wrong_usage(&["load", "--list", "-x"], what, "axle load --list LISTING");
+    let what = "unknown option \"--list\"; a file of this name is given as \"./--list\"";
+    assert_wrong_usage(&["list", "--list"], what, "axle list FILE");
 }
 
 /// Numbers are looked at before the file, which is not there.

@@ -1,6 +1,7 @@
 //! The words of the command, in one table, and what each answers.
 
 use crate::failure::Failure;
+use crate::listings;
 use crate::numbers::{hundredths, short, Quantity, SPEED, TORQUE};
 use crate::numbers_text;
 use crate::sensors;
@@ -10,8 +11,9 @@ use std::cmp::Ordering;
 use std::ffi::{OsStr, OsString};
 use std::os::unix::ffi::OsStrExt;
 
-/// A word of the command: the names of its arguments, its help and its function, which is called
-/// with as many arguments as there are names and answers what is written to standard output.
+/// A word of the command, alone or with an option: the names of its arguments, its help and its
+/// function, which is called with as many arguments as there are names and answers what is written to
+/// standard output.
 pub struct Command {
     pub name: &'static str,
     pub arguments: &'static [&'static str],
@@ -45,6 +47,18 @@ pub const COMMANDS: &[Command] = &[
         function: check,
     },
     Command {
+        name: "load",
+        arguments: &["LISTING"],
+        help: "whether a listing is taken in, and its axes",
+        function: load,
+    },
+    Command {
+        name: "load --list",
+        arguments: &["LISTING"],
+        help: "the listing of the map that a listing says",
+        function: load_and_list,
+    },
+    Command {
         name: "write",
         arguments: &["NUMBERS"],
         help: "the component data that says these numbers",
@@ -59,13 +73,30 @@ pub const COMMANDS: &[Command] = &[
 ];
 
 /// The arguments that are names of files.
-const FILES: [&str; 2] = ["FILE", "NUMBERS"];
+const FILES: [&str; 3] = ["FILE", "LISTING", "NUMBERS"];
 
-pub fn find(word: &OsStr) -> Option<&'static Command> {
-    COMMANDS.iter().find(|command| word == command.name)
+/// The command that is called, the one with its option where that is given, and its arguments.
+pub fn find(words: &[OsString]) -> Option<(&'static Command, &[OsString])> {
+    let called = COMMANDS
+        .iter()
+        .filter_map(|command| Some((command, command.arguments_of(words)?)));
+    called.min_by_key(|(_, arguments)| arguments.len())
 }
 
 impl Command {
+    /// What follows the name, where the words begin with it.
+    fn arguments_of<'a>(&self, words: &'a [OsString]) -> Option<&'a [OsString]> {
+        let mut rest = words;
+        for part in self.name.split(' ') {
+            let (word, later) = rest.split_first()?;
+            if word != part {
+                return None;
+            }
+            rest = later;
+        }
+        Some(rest)
+    }
+
     /// The command as it is typed.
     pub fn usage(&self) -> String {
         format!("axle {} {}", self.name, self.arguments.join(" "))
@@ -88,7 +119,7 @@ impl Command {
         }
     }
 
-    /// There are no options but help: a file's name is not taken for one by mistake.
+    /// An option that is known is part of a command's name: a file's name is not taken for one by mistake.
     fn option_fault(&self, arguments: &[OsString]) -> Option<String> {
         let mut pairs = self.arguments.iter().zip(arguments);
         let (_, option) = pairs.find(|(name, text)| FILES.contains(name) && is_option(text))?;
@@ -131,7 +162,11 @@ fn nearest(arguments: &[OsString]) -> Result<Vec<u8>, Failure> {
 }
 
 fn check(arguments: &[OsString]) -> Result<Vec<u8>, Failure> {
-    let map = map(&arguments[0])?;
+    Ok(accepted(&map(&arguments[0])?))
+}
+
+/// That a map is accepted, and its axes.
+fn accepted(map: &Map) -> Vec<u8> {
     let (speeds, torques) = (map.speeds(), map.torques());
     let line = format!(
         "accepted: {} speeds from {} to {} rpm, {} torques from {} to {} Nm\n",
@@ -142,7 +177,23 @@ fn check(arguments: &[OsString]) -> Result<Vec<u8>, Failure> {
         torques[0],
         torques[torques.len() - 1],
     );
-    Ok(line.into_bytes())
+    line.into_bytes()
+}
+
+fn loaded_map(listing: &OsStr) -> Result<Map, Failure> {
+    let text = streams::read_listing(listing)?;
+    Map::load(&text).map_err(|refusal| match listings::words(&text, &refusal) {
+        Some(words) => Failure::NotLoaded { refusal, words },
+        None => Failure::from(refusal),
+    })
+}
+
+fn load(arguments: &[OsString]) -> Result<Vec<u8>, Failure> {
+    Ok(accepted(&loaded_map(&arguments[0])?))
+}
+
+fn load_and_list(arguments: &[OsString]) -> Result<Vec<u8>, Failure> {
+    Ok(loaded_map(&arguments[0])?.listing()?.into_bytes())
 }
 
 fn write(arguments: &[OsString]) -> Result<Vec<u8>, Failure> {

@@ -10,6 +10,8 @@ pub enum Failure {
         refusal: Refusal,
         sensor: Option<&'static str>,
     },
+    /// The library refused a listing: what was wrong and in which line.
+    NotLoaded { refusal: Refusal, words: String },
     /// Something could not be read or written, or is not allowed as an argument or in a text.
     Failed(String),
     /// Other arguments than those of a command: what is wrong, and the usage.
@@ -19,7 +21,7 @@ pub enum Failure {
 impl Failure {
     pub fn status(&self) -> u8 {
         match self {
-            Failure::Refused { .. } => 1,
+            Failure::Refused { .. } | Failure::NotLoaded { .. } => 1,
             Failure::Failed(_) | Failure::WrongUsage { .. } => 2,
         }
     }
@@ -41,6 +43,10 @@ impl fmt::Display for Failure {
                     Some(sensor) => write!(f, ", of the {sensor} sensor"),
                     None => Ok(()),
                 }
+            }
+            Failure::NotLoaded { refusal, words } => {
+                let Refusal { number, place, .. } = refusal;
+                write!(f, "axle: refused {number} at {place}: {words}")
             }
             Failure::Failed(message) => write!(f, "axle: {message}"),
             Failure::WrongUsage { message, usage } => write!(f, "axle: {message}\nusage: {usage}"),

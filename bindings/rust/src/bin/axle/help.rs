@@ -4,8 +4,8 @@ use crate::commands::COMMANDS;
 use crate::failure::Failure;
 
 const ABOUT: &str = "\
-axle: the loss map of an axle's component data, such data made from numbers, and the
-steps of a sensor's uncertainty
+axle: the loss map of an axle's component data, such data made from numbers, a listing
+taken in, and the steps of a sensor's uncertainty
 
 usage:
 ";
@@ -15,10 +15,12 @@ FILE     component data; - for standard input; ./-name for a name that begins wi
 SPEED    speed at the wheel in rpm, at most one digit after the point
 TORQUE   torque at the wheel in Nm, at most two digits after the point; of steps, the
          torque that the sensor measured
+LISTING  a listing as list writes it; spaces and tabs at both ends of its lines are not
+         looked at; - for standard input
 NUMBERS  a text with the numbers of component data; - for standard input
 N to R   the whole numbers of a sensor, in the order of the data
 
-A line of the text is one of these words with its numbers, set apart by blanks. Each
+A line of NUMBERS is one of these words with its numbers, set apart by blanks. Each
 word stands once, in any order, but for row. Lines that are empty or begin with # are
 passed over. Every line ends with a line feed, the last too.
   kind     1 standard, 2 measured, 3 measured with a sensor on each half-shaft
@@ -36,10 +38,12 @@ passed over. Every line ends with a line feed, the last too.
 Below the map's first torque a loss follows the line of the first two torques and
 may be negative. The nearest point is the lower one of two that are equally near, and
 the end of the axis for a point outside it. Steps are printed a line each: a, b, g, h
-and U, each with its grains, of which 100 are 0.01 Nm.
+and U, each with its grains, of which 100 are 0.01 Nm. A refused line of a listing is
+told with its number, counted from 1, the header's.
 
 Answers go to standard output, refusals and failures to standard error.
-Status 0: answered. Status 1: the data, the numbers or the question is refused.
+Status 0: answered. Status 1: the data, the listing, the numbers or the question is
+refused.
 Status 2: something could not be read or written, or wrong usage.
 
 examples, in the folder examples:
@@ -48,6 +52,8 @@ examples, in the folder examples:
   axle loss measured.axle 100 500        prints -41.25
   axle nearest standard.axle 150.1 500   prints 200,0
   axle check - < standard.axle
+  axle load standard.csv
+  axle load --list - < standard.csv
   axle write measured.numbers > new.axle
   axle steps 10000 0 0 100 1000 0 0 0 10 340
 ";
@@ -65,7 +71,8 @@ pub fn text() -> String {
 
 /// Where no command is meant that is known: the words there are.
 pub fn wrong_usage(message: String) -> Failure {
-    let names: Vec<&str> = COMMANDS.iter().map(|command| command.name).collect();
+    let names = COMMANDS.iter().map(|command| command.name);
+    let names: Vec<&str> = names.filter(|name| !name.contains(' ')).collect();
     Failure::WrongUsage {
         message,
         usage: format!("axle {} .., or axle --help", names.join("|")),

@@ -4,6 +4,7 @@ mod closed;
 mod commands;
 mod failure;
 mod help;
+mod listings;
 mod numbers;
 mod numbers_text;
 mod sensors;
@@ -32,11 +33,9 @@ fn answer(arguments: &[OsString]) -> Result<Vec<u8>, Failure> {
     {
         return Ok(help::text().into_bytes());
     }
-    match arguments.split_first() {
-        None => Err(help::wrong_usage("no command given".to_string())),
-        Some((word, rest)) => match commands::find(word) {
-            None => Err(help::wrong_usage(format!("unknown command {word:?}"))),
-            Some(command) => command.answer(rest),
-        },
+    match (commands::find(arguments), arguments.first()) {
+        (Some((command, rest)), _) => command.answer(rest),
+        (None, Some(word)) => Err(help::wrong_usage(format!("unknown command {word:?}"))),
+        (None, None) => Err(help::wrong_usage("no command given".to_string())),
     }
 }

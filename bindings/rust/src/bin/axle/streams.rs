@@ -27,19 +27,33 @@ fn open(name: &OsStr) -> io::Result<File> {
 /// No text of numbers need be longer: that of the largest grid has some 65,000 bytes.
 const LONGEST_TEXT: usize = 1_048_576;
 
+/// No listing need be longer: without blanks at the ends of its lines it has at most 65,536 bytes.
+const LONGEST_LISTING: usize = 67_108_864;
+
 /// Component data, up to the library's limit.
 pub fn read_data(name: &OsStr) -> Result<Vec<u8>, Failure> {
     read(name, axle::READING_LIMIT)
 }
 
-/// A text, which is read whole or not at all. Bytes that are not UTF-8 may stand in its remarks.
+/// A text of numbers. Bytes that are not UTF-8 may stand in its remarks.
 pub fn read_text(name: &OsStr) -> Result<String, Failure> {
-    let text = read(name, LONGEST_TEXT as u64 + 1)?;
-    if text.len() > LONGEST_TEXT {
-        let message = format!("the text is longer than {LONGEST_TEXT} bytes");
+    let text = read_whole(name, LONGEST_TEXT)?;
+    Ok(String::from_utf8_lossy(&text).into_owned())
+}
+
+/// A listing, whatever its bytes are.
+pub fn read_listing(name: &OsStr) -> Result<Vec<u8>, Failure> {
+    read_whole(name, LONGEST_LISTING)
+}
+
+/// A text, which is read whole or not at all.
+fn read_whole(name: &OsStr, longest: usize) -> Result<Vec<u8>, Failure> {
+    let text = read(name, longest as u64 + 1)?;
+    if text.len() > longest {
+        let message = format!("the text is longer than {longest} bytes");
         return Err(Failure::Failed(message));
     }
-    Ok(String::from_utf8_lossy(&text).into_owned())
+    Ok(text)
 }
 
 /// The bytes of a file, or of standard input for `-`, up to a limit.
