@@ -607,7 +607,7 @@ fn the_tally_counts_what_was_loaded() {
     let text = seen.to_string();
     for line in [
         "texts loaded: 7\n",
-        "different texts loaded: 1, with another listing: 0\n",
+        "different inputs loaded: 1, with another listing: 0\n",
         "refusal 42 of a load: 2 different inputs at 2 places\n",
         "refusal 5 of a load: 0 different inputs at 0 places\n",
         "of these 42 at the text's length: 1\n",
