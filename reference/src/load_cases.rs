@@ -507,11 +507,12 @@ fn largest(source: &mut Source) -> Vec<Case> {
 }
 
 #[cfg(test)]
-mod tests {
+pub(crate) mod tests {
     use super::*;
     use crate::loader::load;
 
-    fn number(case: &Case) -> Option<u8> {
+    /// The number of the refusal of a text that is loaded.
+    pub(crate) fn refused(case: &Case) -> Option<u8> {
         let Case::Load { text, entries } = case else {
             panic!("not a load");
         };
@@ -521,10 +522,10 @@ mod tests {
     #[test]
     fn wrong_headers_and_forms_are_wrong() {
         for case in with_wrong_headers().iter().rev().skip(1) {
-            assert_eq!(number(case), Some(40), "{:?}", case.bytes());
+            assert_eq!(refused(case), Some(40), "{:?}", case.bytes());
         }
         for case in with_wrong_forms() {
-            assert_eq!(number(&case), Some(41), "{:?}", case.bytes());
+            assert_eq!(refused(&case), Some(41), "{:?}", case.bytes());
         }
     }
 }

@@ -91,21 +91,14 @@ pub(crate) fn with_two_faults() -> Vec<Case> {
 #[cfg(test)]
 mod tests {
     use super::*;
-    use crate::loader::load;
-
-    fn number(case: &Case) -> Option<u8> {
-        let Case::Load { text, entries } = case else {
-            panic!("not a load");
-        };
-        load(text, *entries).err().map(|refusal| refusal.number)
-    }
+    use crate::load_cases::tests::refused;
 
     #[test]
     fn of_two_faults_the_earlier_one_is_told() {
-        assert_eq!(number(&Draft::new().case()), None);
+        assert_eq!(refused(&Draft::new().case()), None);
         for (earlier, (due, _)) in PAIRED.iter().enumerate() {
             for later in earlier..PAIRED.len() {
-                let found = number(&paired(earlier, later));
+                let found = refused(&paired(earlier, later));
                 assert_eq!(found, Some(*due), "{earlier} and {later}");
             }
         }
