@@ -2,8 +2,8 @@
    is, with blanks at the ends of its lines, and changed so that it is refused.
    Status 0: all answers are as document 02, C-16, has them; 1: one is not. */
 #include "axle.h"
+#include "expect.h"
 
-#include <stdio.h>
 #include <string.h>
 
 enum { ENTRIES = 4, LENT = 6, LENGTH = 76 };
@@ -18,15 +18,6 @@ static const uint32_t untouched[LENT] = {7, 7, 7, 7, 7, 7};
 
 static uint32_t entries[LENT];
 static uint8_t text[AXLE_TEXT];
-static int faults;
-
-static void expect(const char *name, uint64_t want, uint64_t answer)
-{
-    if (answer == want)
-        return;
-    faults++;
-    printf("%s: %llu, and not %llu\n", name, (unsigned long long)answer, (unsigned long long)want);
-}
 
 /* Loads a text with so many of the entries lent. */
 static axle_axes_answer load(const char *given, size_t entry_count)

@@ -3,8 +3,8 @@
    turn beyond every range (32).
    Status 0: all answers are as document 02, C-15, has them; 1: one is not. */
 #include "axle.h"
+#include "expect.h"
 
-#include <stdio.h>
 #include <string.h>
 
 enum { SENSOR_NUMBERS = 9, STEPS = 5 };
@@ -16,16 +16,6 @@ static const uint16_t highest[SENSOR_NUMBERS] = {50000, 10000, 10000, 10000, 100
 
 /* What a refused call has as steps. */
 static const uint64_t none[STEPS];
-
-static int faults;
-
-static void expect(const char *name, uint64_t want, uint64_t answer)
-{
-    if (answer == want)
-        return;
-    faults++;
-    printf("%s: %llu, and not %llu\n", name, (unsigned long long)answer, (unsigned long long)want);
-}
 
 static void expect_steps(axle_steps_answer answer, const uint64_t steps[STEPS])
 {
