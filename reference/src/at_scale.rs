@@ -1,15 +1,18 @@
-//! The cases of both comparisons at scale, `reference/compare` and `measure/compare`: the sequences of cases with writes, allowances, refused numbers, steps and loads among them.
+//! The cases of both comparisons at scale, `reference/compare` and `measure/compare`: the sequences of cases with writes, allowances, refused numbers, steps, loads and drags among them.
 
 use crate::cases::{self, Case};
-use crate::{allowance_cases, load_cases, refused_number_cases, steps_cases, write_cases};
+use crate::{
+    allowance_cases, drag_cases, load_cases, refused_number_cases, steps_cases, write_cases,
+};
 
 /// Of so many cases by chance one is a write, one is of the allowances, and one is of the refused numbers.
 const ROUND: u64 = 8;
 
-/// Of so many cases by chance one is of steps, and one is a load. Their numbers leave 3 or 7 in a round of the others, so that they take none of their places.
+/// Of so many cases by chance one is of steps, one is a load, and one is a drag. Their numbers leave 3 or 7 in a round of the others, so that they take none of their places.
 const LATER_ROUND: u64 = 20;
 const STEPS_PLACE: u64 = 3;
 const LOAD_PLACE: u64 = 7;
+const DRAG_PLACE: u64 = 11;
 
 /// The cases that do not depend on chance alone.
 pub fn systematic(seed: u64) -> Vec<Case> {
@@ -19,14 +22,16 @@ pub fn systematic(seed: u64) -> Vec<Case> {
     all.extend(refused_number_cases::systematic(seed));
     all.extend(steps_cases::systematic(seed));
     all.extend(load_cases::systematic(seed));
+    all.extend(drag_cases::systematic(seed));
     all
 }
 
-/// A case by chance, of a small map or a large one: by its number steps, a load, a write, one of the allowances, one of the refused numbers, or the case that it is without them.
+/// A case by chance, of a small map or a large one: by its number steps, a load, a drag, a write, one of the allowances, one of the refused numbers, or the case that it is without them.
 pub fn by_chance(seed: u64, number: u64) -> Case {
     match number % LATER_ROUND {
         STEPS_PLACE => return steps_cases::by_chance(seed, number),
         LOAD_PLACE => return load_cases::by_chance(seed, number, true),
+        DRAG_PLACE => return drag_cases::by_chance(seed, number),
         _ => {}
     }
     match number % ROUND {

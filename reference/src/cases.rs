@@ -38,6 +38,13 @@ pub enum Case {
     Steps { sensor: [u16; 9], torque: u32 },
     /// A listing loaded into so many lent entries.
     Load { text: Vec<u8>, entries: usize },
+    /// The drag of a retarder, asked for its readings and bearing losses in hundredths of Nm, its ratio in thousandths and the drive speed in tenths of rpm.
+    Drag {
+        readings: Vec<u32>,
+        bearings: Vec<u32>,
+        ratio: u32,
+        speed: u32,
+    },
 }
 
 impl Case {
@@ -50,6 +57,7 @@ impl Case {
             Case::Write { .. } => 'w',
             Case::Steps { .. } => 's',
             Case::Load { .. } => 'l',
+            Case::Drag { .. } => 'd',
         }
     }
 
@@ -81,6 +89,12 @@ impl Case {
             Case::Write { numbers, room } => (0, *room, handed_bytes(numbers), &[]),
             Case::Steps { sensor, torque } => (0, 0, steps_bytes(sensor, *torque), &[]),
             Case::Load { text, entries } => (*entries, 0, text.clone(), &[]),
+            Case::Drag {
+                readings,
+                bearings,
+                ratio,
+                speed,
+            } => (0, 0, drag_bytes(readings, bearings, *ratio, *speed), &[]),
         };
         let mut bytes = vec![self.letter() as u8];
         bytes.extend((entries as u16).to_be_bytes());
@@ -131,6 +145,13 @@ fn steps_bytes(sensor: &[u16; 9], torque: u32) -> Vec<u8> {
     let mut bytes = sensor.map(u16::to_be_bytes).concat();
     bytes.extend(torque.to_be_bytes());
     bytes
+}
+
+/// Ratio and speed, how many readings there are, the readings, then the bearing losses.
+fn drag_bytes(readings: &[u32], bearings: &[u32], ratio: u32, speed: u32) -> Vec<u8> {
+    let first = [ratio, speed, readings.len() as u32];
+    let numbers = first.iter().chain(readings).chain(bearings);
+    numbers.flat_map(|number| number.to_be_bytes()).collect()
 }
 
 /// Lent bytes for a listing or a file: most often enough, else just enough, just too few, or any number.

@@ -1,8 +1,9 @@
 //! Second implementation of document 01, "Axle loss maps", with requests C-11, two
 //! half-shaft sensors, C-12, writing component data, C-13, the newton metre of the
 //! allowance at the input, C-14, which number was refused, C-15, the steps of a
-//! sensor's uncertainty, and C-16, a listing taken in, of document 02; written from
-//! these papers alone. It renders the whole of them, for checks by running.
+//! sensor's uncertainty, C-16, a listing taken in, and C-17, retarder drag, of document
+//! 02; written from these papers alone. It renders the whole of them, for checks by
+//! running.
 //! Beside it: traces of single numbers; a generator of component data and
 //! questions, and what it takes to compare the answers with those of the proved
 //! libraries; cases whose exact entries are printed; and the examples.
@@ -15,6 +16,7 @@ pub mod lookup;
 pub mod loss;
 pub mod map;
 pub mod refusal;
+pub mod retarder;
 pub mod steps;
 pub mod wide;
 pub mod writer;
@@ -29,6 +31,8 @@ pub mod at_scale;
 pub mod bench_run;
 pub mod cases;
 pub mod data;
+pub mod drag_cases;
+pub mod drag_tally;
 pub mod exact_cases;
 pub mod examples;
 pub mod faults;

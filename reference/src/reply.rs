@@ -3,6 +3,7 @@
 use crate::allowances::Allowances;
 use crate::cases::Case;
 use crate::component::{self, Component, Kind};
+use crate::drag_tally::{Asked, DragTally};
 use crate::exact::{ExactMap, Verdict};
 use crate::listing::{listing, listing_of_data, report_of};
 use crate::load_tally::LoadTally;
@@ -13,6 +14,7 @@ use crate::map::{self, Map};
 use crate::questions::Question;
 use crate::refusal::Refusal;
 use crate::refused_numbers::RefusedNumbers;
+use crate::retarder;
 use crate::steps;
 use crate::steps_tally::StepsTally;
 use crate::writer::{self, HandedNumbers};
@@ -76,7 +78,7 @@ impl Writes {
 #[derive(Default)]
 pub struct Seen {
     pub cases: BTreeMap<char, u64>,
-    /// Those of writes, of steps and of loads are apart.
+    /// Those of writes, of steps, of loads and of drags are apart.
     pub refusals: BTreeMap<u8, u64>,
     pub places: BTreeMap<u8, BTreeSet<usize>>,
     /// Maps built, by the number of their kind.
@@ -93,6 +95,7 @@ pub struct Seen {
     pub refused_numbers: RefusedNumbers,
     pub steps: StepsTally,
     pub loads: LoadTally,
+    pub drags: DragTally,
 }
 
 impl Seen {
@@ -147,7 +150,33 @@ pub fn reply(case: &Case, seen: &mut Seen) -> Vec<u8> {
         Case::Write { numbers, room } => write_reply(numbers, *room, seen).into_bytes(),
         Case::Steps { sensor, torque } => steps_reply(*sensor, *torque, seen).into_bytes(),
         Case::Load { text, entries } => load_reply(text, *entries, seen).into_bytes(),
+        Case::Drag {
+            readings,
+            bearings,
+            ratio,
+            speed,
+        } => {
+            let asked = Asked {
+                readings,
+                bearings,
+                ratio: *ratio,
+                speed: *speed,
+            };
+            drag_reply(asked, seen).into_bytes()
+        }
     }
+}
+
+/// Nothing is lent, so no line says that it is kept.
+fn drag_reply(asked: Asked, seen: &mut Seen) -> String {
+    let answer = retarder::drag(asked.readings, asked.bearings, asked.ratio, asked.speed);
+    seen.drags.add(asked, &answer);
+    answer.map_or_else(refused_line, drag_line)
+}
+
+/// A drag in hundredths of Nm, as one line.
+pub fn drag_line(drag: u32) -> String {
+    format!("drag {drag}\n")
 }
 
 /// The lent entries past the last, or all of them where there is none, are kept as they were.

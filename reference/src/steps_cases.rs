@@ -238,7 +238,7 @@ fn chance_remainder(source: &mut Source, part: usize, remainder: fn(u128) -> u12
 }
 
 /// The least factor from 1 on whose product with the unit leaves this remainder.
-fn factor(unit: u128, denominator: u128, remainder: u128) -> Option<u128> {
+pub(crate) fn factor(unit: u128, denominator: u128, remainder: u128) -> Option<u128> {
     let common = common_divisor(unit, denominator);
     if !remainder.is_multiple_of(common) {
         return None;

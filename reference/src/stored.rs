@@ -7,7 +7,9 @@ use crate::questions::Question;
 use crate::random::Source;
 use crate::reply::{reply, Excess, Seen, Writes};
 use crate::writer::HandedNumbers;
-use crate::{allowance_cases, load_cases, refused_number_cases, steps_cases, valid, write_cases};
+use crate::{
+    allowance_cases, drag_cases, load_cases, refused_number_cases, steps_cases, valid, write_cases,
+};
 use std::fmt;
 
 const SEED: u64 = 20_172_400;
@@ -17,9 +19,10 @@ const ALLOWANCES_BY_CHANCE: u64 = 100;
 const REFUSED_NUMBERS_BY_CHANCE: u64 = 240;
 const STEPS_BY_CHANCE: u64 = 400;
 const LOADS_BY_CHANCE: u64 = 300;
+const DRAGS_BY_CHANCE: u64 = 170;
 
-/// How many cases were written by hand before the requests C-12 to C-16.
-const WRITTEN_BY_HAND_BEFORE: [usize; 5] = [265, 315, 326, 372, 483];
+/// How many cases were written by hand before the requests C-12 to C-17.
+const WRITTEN_BY_HAND_BEFORE: [usize; 6] = [265, 315, 326, 372, 483, 719];
 
 /// Chosen among many: its data is accepted, no number of a sensor is 0, and most entries differ from each other.
 const MAP_PROGRAM_CASE: u64 = 8_283;
@@ -32,6 +35,9 @@ pub const WRITE_REFUSALS: [u8; 11] = [3, 4, 5, 6, 7, 8, 9, 10, 30, 31, 32];
 
 /// Every refusal of a load.
 pub const LOAD_REFUSALS: [u8; 8] = [40, 41, 42, 4, 5, 6, 10, 11];
+
+/// Every refusal of a drag.
+pub const DRAG_REFUSALS: [u8; 3] = [45, 46, 47];
 
 const KINDS: [u8; 3] = [1, 2, 3];
 
@@ -116,6 +122,22 @@ pub fn load_of(bytes: &[u8]) -> (usize, &[u8]) {
     (number_of(entries) as usize, text)
 }
 
+/// A drag: ratio, speed and the count of readings, four bytes each, then the readings, then the bearing losses to the end.
+pub fn drag_of(bytes: &[u8]) -> Case {
+    assert!(bytes.len().is_multiple_of(4), "numbers of four bytes");
+    let numbers: Vec<u32> = bytes
+        .chunks_exact(4)
+        .map(|bytes| number_of(bytes) as u32)
+        .collect();
+    let (readings, bearings) = numbers[3..].split_at(numbers[2] as usize);
+    Case::Drag {
+        readings: readings.to_vec(),
+        bearings: bearings.to_vec(),
+        ratio: numbers[0],
+        speed: numbers[1],
+    }
+}
+
 fn hand_case((letter, bytes): (char, Vec<u8>)) -> Case {
     match letter {
         'r' => Case::Read(bytes),
@@ -135,6 +157,7 @@ fn hand_case((letter, bytes): (char, Vec<u8>)) -> Case {
                 entries,
             }
         }
+        'd' => drag_of(&bytes),
         _ => {
             let (question, data) = question_of(&bytes);
             Case::Build {
@@ -147,11 +170,12 @@ fn hand_case((letter, bytes): (char, Vec<u8>)) -> Case {
     }
 }
 
-/// All stored cases, in their order. Those of a later request are behind all others, which thereby stay as they were before it: the writes of C-12, then the allowances of C-13, then the refused numbers of C-14, then the steps of C-15, then the loads of C-16.
+/// All stored cases, in their order. Those of a later request are behind all others, which thereby stay as they were before it: the writes of C-12, then the allowances of C-13, then the refused numbers of C-14, then the steps of C-15, then the loads of C-16, then the drags of C-17.
 pub fn stored_cases() -> Vec<Case> {
     let mut cases: Vec<Case> = written_by_hand().into_iter().map(hand_case).collect();
-    let [before_writes, before_allowances, before_refused_numbers, before_steps, before_loads] =
+    let [before_writes, before_allowances, before_refused_numbers, before_steps, before_loads, before_drags] =
         WRITTEN_BY_HAND_BEFORE;
+    let drags = cases.split_off(before_drags);
     let loads = cases.split_off(before_loads);
     let steps = cases.split_off(before_steps);
     let refused_numbers = cases.split_off(before_refused_numbers);
@@ -178,6 +202,9 @@ pub fn stored_cases() -> Vec<Case> {
     cases.extend(load_cases::systematic(SEED));
     let load = |number| load_cases::by_chance(SEED, number, false);
     cases.extend((0..LOADS_BY_CHANCE).map(load));
+    cases.extend(drags);
+    cases.extend(drag_cases::systematic(SEED));
+    cases.extend((0..DRAGS_BY_CHANCE).map(|number| drag_cases::by_chance(SEED, number)));
     cases
 }
 
@@ -231,6 +258,7 @@ pub fn missing(seen: &Seen) -> Vec<String> {
     counts.extend(seen.refused_numbers.counts());
     counts.extend(seen.steps.counts());
     counts.extend(seen.loads.counts());
+    counts.extend(seen.drags.counts());
     let too_few = counts.iter().filter(|(_, count)| *count < 20);
     missing.extend(too_few.map(|(name, count)| format!("{name}: {count}")));
     missing
@@ -244,12 +272,13 @@ fn refusals_and_places(seen: &Seen, number: u8) -> (u64, usize) {
 }
 
 /// Entries and answers outside the limits of demand 3, data that has other bytes when it is
-/// written again, listings that load to another map, and loaded maps with another listing: what
-/// both programs could have in common.
+/// written again, listings that load to another map, loaded maps with another listing, and
+/// drags outside their limits: what both programs could have in common.
 pub fn broken(seen: &Seen) -> u64 {
     let outside = seen.entries.outside + seen.answers.outside + seen.answers_below.outside;
     let loads = &seen.loads;
-    outside + seen.written_otherwise + loads.loaded_otherwise + loads.listed_otherwise
+    let otherwise = seen.written_otherwise + loads.loaded_otherwise + loads.listed_otherwise;
+    outside + otherwise + seen.drags.outside
 }
 
 /// Millionths of a hundredth of Nm, written in hundredths.
@@ -288,6 +317,7 @@ impl fmt::Display for Seen {
             ('w', "numbers handed to the writer"),
             ('s', "sensors asked for their steps"),
             ('l', "texts loaded"),
+            ('d', "retarders asked for their drag"),
         ] {
             if let Some(count) = self.cases.get(&letter) {
                 writeln!(f, "{name}: {count}")?;
@@ -312,6 +342,7 @@ impl fmt::Display for Seen {
         self.writes.fmt(f)?;
         self.steps.fmt(f)?;
         self.loads.fmt(f)?;
+        self.drags.fmt(f)?;
         self.refused_numbers.fmt(f)?;
         excess_line(f, "entries", &self.entries)?;
         excess_line(f, "answers from the first torque upwards", &self.answers)?;

@@ -243,9 +243,11 @@ fn refused_of_kind_3() -> Vec<(Vec<u8>, Refusal)> {
             Case::Read(data) => (data.clone(), component::read(&data).err()),
             Case::Program(data) => (data.clone(), map::build(&data, MOST_ENTRIES).err()),
             Case::Build { data, entries, .. } => (data.clone(), map::build(&data, entries).err()),
-            Case::Map { .. } | Case::Write { .. } | Case::Steps { .. } | Case::Load { .. } => {
-                continue
-            }
+            Case::Map { .. }
+            | Case::Write { .. }
+            | Case::Steps { .. }
+            | Case::Load { .. }
+            | Case::Drag { .. } => continue,
         };
         if data.starts_with(&[1, 0, 1, 3]) {
             let in_data = refusal.filter(|refusal| refusal.number != 11);

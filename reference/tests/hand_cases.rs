@@ -1,14 +1,16 @@
-//! cases/cases.txt against cases/answers.txt, which a third program reckoned in exact fractions, with the allowance of request C-13; those of kind 3, of the writer, of that request and of requests C-14 to C-16, the last ones, were reckoned by hand, but for the last one of C-13.
+//! cases/cases.txt against cases/answers.txt, which a third program reckoned in exact fractions, with the allowance of request C-13; those of kind 3, of the writer, of that request and of requests C-14 to C-17, the last ones, were reckoned by hand, but for the last one of C-13.
 
+use reference::cases::Case;
 use reference::component;
 use reference::listing::report;
 use reference::loader::load;
 use reference::lookup::{loss, nearest, LentMap};
 use reference::map;
 use reference::refusal::Refusal;
-use reference::reply::{component_line, loaded_line, steps_line, written_lines};
+use reference::reply::{component_line, drag_line, loaded_line, steps_line, written_lines};
+use reference::retarder::drag;
 use reference::steps::checked_steps;
-use reference::stored::{load_of, question_of, steps_of, write_of, written_by_hand};
+use reference::stored::{drag_of, load_of, question_of, steps_of, write_of, written_by_hand};
 use reference::writer;
 
 fn refused(refusal: Refusal) -> String {
@@ -52,6 +54,19 @@ fn load_answer(bytes: &[u8]) -> String {
     load(text, entries).map_or_else(refused, |map| loaded_line(&map))
 }
 
+fn drag_answer(bytes: &[u8]) -> String {
+    let Case::Drag {
+        readings,
+        bearings,
+        ratio,
+        speed,
+    } = drag_of(bytes)
+    else {
+        panic!("not a drag");
+    };
+    drag(&readings, &bearings, ratio, speed).map_or_else(refused, drag_line)
+}
+
 fn answer((letter, bytes): (char, Vec<u8>)) -> String {
     match letter {
         'r' => match component::read(&bytes) {
@@ -62,6 +77,7 @@ fn answer((letter, bytes): (char, Vec<u8>)) -> String {
         'w' => write_answer(&bytes),
         's' => steps_answer(&bytes),
         'l' => load_answer(&bytes),
+        'd' => drag_answer(&bytes),
         _ => question_answer(&bytes),
     }
 }
@@ -69,7 +85,7 @@ fn answer((letter, bytes): (char, Vec<u8>)) -> String {
 #[test]
 fn answers_are_those_of_the_third_program_and_of_the_hand() {
     let cases = written_by_hand();
-    assert_eq!(cases.len(), 178 + 87 + 50 + 11 + 46 + 111 + 236);
+    assert_eq!(cases.len(), 178 + 87 + 50 + 11 + 46 + 111 + 236 + 163);
     let answers: String = cases.into_iter().map(answer).collect();
     assert_eq!(answers, include_str!("../cases/answers.txt"));
 }

@@ -1,0 +1,154 @@
+//! Document 02, request C-17: the drag of a retarder at a speed of its drive. The
+//! points are those of source document 002, 5.1.6.2.1.
+
+use crate::refusal::Refusal;
+
+/// The speeds of the points in rpm. A table holds the first of them.
+pub const POINTS: [u32; 13] = [
+    200, 400, 600, 900, 1_200, 1_600, 2_000, 2_500, 3_000, 3_500, 4_000, 4_500, 5_000,
+];
+
+pub const LEAST_POINTS: usize = 2;
+
+/// The step-up ratio in thousandths.
+pub const LOWEST_RATIO: u32 = 100;
+pub const HIGHEST_RATIO: u32 = 10_000;
+
+/// In hundredths of Nm.
+pub const LARGEST_DRAG: u32 = 10_000_000;
+
+/// Ten-thousandths of rpm: tenths of the drive's rpm times thousandths of the ratio.
+const PARTS_OF_RPM: u128 = 10_000;
+
+/// The drag in hundredths of Nm for readings and bearing losses in hundredths of Nm, a
+/// ratio in thousandths and a drive speed in tenths of rpm. Refused are a ratio or a
+/// count outside its limits and readings and bearing losses unequal in number, with 45,
+/// then a bearing loss above its reading and a drag above the largest, with 46, then a
+/// retarder speed outside the table, with 47; all with place 0.
+pub fn drag(
+    readings: &[u32],
+    bearings: &[u32],
+    ratio: u32,
+    drive_speed: u32,
+) -> Result<u32, Refusal> {
+    let ratio_is_right = (LOWEST_RATIO..=HIGHEST_RATIO).contains(&ratio);
+    let count_is_right = (LEAST_POINTS..=POINTS.len()).contains(&readings.len());
+    if !ratio_is_right || !count_is_right || bearings.len() != readings.len() {
+        return Err(Refusal::at(45, 0));
+    }
+    let drags = drags(readings, bearings)?;
+    let speed = u128::from(drive_speed) * u128::from(ratio);
+    drag_at(&drags, speed)
+}
+
+/// The drag at each point: every reading less its bearing loss.
+fn drags(readings: &[u32], bearings: &[u32]) -> Result<Vec<u32>, Refusal> {
+    let drag = |(reading, bearing): (&u32, &u32)| {
+        let drag = reading.checked_sub(*bearing);
+        drag.filter(|drag| *drag <= LARGEST_DRAG)
+            .ok_or(Refusal::at(46, 0))
+    };
+    readings.iter().zip(bearings).map(drag).collect()
+}
+
+/// A point's speed in ten-thousandths of rpm.
+fn point(index: usize) -> u128 {
+    u128::from(POINTS[index]) * PARTS_OF_RPM
+}
+
+/// The drag at a retarder speed in ten-thousandths of rpm, rounded up once. Where two
+/// segments have the speed, both give the same.
+fn drag_at(drags: &[u32], speed: u128) -> Result<u32, Refusal> {
+    let is_within = |lower: usize| (point(lower)..=point(lower + 1)).contains(&speed);
+    let Some(lower) = (0..drags.len() - 1).find(|lower| is_within(*lower)) else {
+        return Err(Refusal::at(47, 0));
+    };
+    let (before, behind) = (point(lower), point(lower + 1));
+    let of_lower = u128::from(drags[lower]) * (behind - speed);
+    let of_upper = u128::from(drags[lower + 1]) * (speed - before);
+    // At most the larger of both drags.
+    Ok((of_lower + of_upper).div_ceil(behind - before) as u32)
+}
+
+#[cfg(test)]
+mod tests {
+    use super::*;
+
+    fn refused(number: u8) -> Result<u32, Refusal> {
+        Err(Refusal::at(number, 0))
+    }
+
+    /// Drags of 900 at 200 rpm and 1,300 at 400 rpm.
+    fn rising(ratio: u32, speed: u32) -> Result<u32, Refusal> {
+        drag(&[1_000, 1_500], &[100, 200], ratio, speed)
+    }
+
+    #[test]
+    fn between_points_and_on_them() {
+        assert_eq!(rising(1_500, 2_000), Ok(1_100));
+        // 266.6 rpm: 5,166 / 5.
+        assert_eq!(rising(1_333, 2_000), Ok(1_034));
+        assert_eq!(rising(1_000, 2_000), Ok(900));
+        assert_eq!(rising(1_000, 4_000), Ok(1_300));
+    }
+
+    #[test]
+    fn outside_the_table() {
+        // 199.9998 and 199.9999 rpm.
+        assert_eq!(rising(999, 2_002), refused(47));
+        assert_eq!(rising(1_207, 1_657), refused(47));
+        assert_eq!(rising(1_000, 4_001), refused(47));
+        assert_eq!(rising(1_000, 0), refused(47));
+        assert_eq!(rising(10_000, u32::MAX), refused(47));
+    }
+
+    #[test]
+    fn falling_drags_are_rounded_up() {
+        // 300.1 rpm: 1,249.75.
+        let drag = drag(&[1_500, 1_000], &[0, 0], 1_000, 3_001);
+        assert_eq!(drag, Ok(1_250));
+    }
+
+    #[test]
+    fn the_first_refusal_is_told() {
+        let with = |ratio| drag(&[10, 10], &[11, 0], ratio, 0);
+        assert_eq!(with(99), refused(45));
+        assert_eq!(with(100), refused(46));
+        assert_eq!(with(10_000), refused(46));
+        assert_eq!(with(10_001), refused(45));
+        assert_eq!(drag(&[10], &[11], 1_000, 0), refused(45));
+        assert_eq!(drag(&[10; 14], &[11; 14], 1_000, 0), refused(45));
+        assert_eq!(drag(&[10; 3], &[11; 2], 1_000, 0), refused(45));
+        assert_eq!(drag(&[10; 2], &[11; 3], 1_000, 0), refused(45));
+        assert_eq!(drag(&[], &[], 1_000, 0), refused(45));
+    }
+
+    #[test]
+    fn drags_at_their_limits() {
+        let first = |reading, bearing| drag(&[reading, 0], &[bearing, 0], 1_000, 2_000);
+        assert_eq!(first(10_000_001, 1), Ok(10_000_000));
+        assert_eq!(first(10_000_001, 0), refused(46));
+        assert_eq!(first(u32::MAX, u32::MAX), Ok(0));
+        // A reading that the speed does not need.
+        let third = |reading| drag(&[0, 0, reading], &[0; 3], 1_000, 2_000);
+        assert_eq!(third(10_000_000), Ok(0));
+        assert_eq!(third(10_000_001), refused(46));
+    }
+
+    /// At a point that two segments share, the drag measured there.
+    #[test]
+    fn all_points() {
+        let readings: Vec<u32> = (0..13).map(|index| 7 * index * index + 3).collect();
+        for count in 2..=13 {
+            for (index, speed) in POINTS.iter().enumerate() {
+                let found = drag(&readings[..count], &vec![2; count], 1_000, 10 * speed);
+                let due = if index < count {
+                    Ok(readings[index] - 2)
+                } else {
+                    refused(47)
+                };
+                assert_eq!(found, due, "{count} points at {speed} rpm");
+            }
+        }
+    }
+}
