@@ -344,8 +344,8 @@ fn counts() -> Vec<Draft> {
 /// At each point a bearing loss equal to its reading and one above it, the largest drag and one above it; and the highest numbers. The speed stays in the first segment.
 fn readings_at_limits() -> Vec<Draft> {
     let mut all = Vec::new();
-    for index in 0..POINTS.len() {
-        let (reading, bearing) = (1_000, BEARINGS[index]);
+    for (index, bearing) in BEARINGS.into_iter().enumerate() {
+        let reading = 1_000;
         let largest = bearing + LARGEST_DRAG;
         let mut pairs = vec![
             (reading, reading),
@@ -508,10 +508,10 @@ fn with_two_faults() -> Vec<Draft> {
     for earlier in 0..PAIRED.len() {
         all.extend((earlier..PAIRED.len()).map(|later| paired(earlier, later)));
     }
-    for first in 0..6 {
+    for (_, put_in) in &PAIRED[..6] {
         for (second, third) in [(6, 8), (7, 9)] {
             let mut draft = paired(second, third);
-            PAIRED[first].1(&mut draft);
+            put_in(&mut draft);
             all.push(draft);
         }
     }

@@ -1,4 +1,4 @@
-//! Document 01's worked cases and boundaries, and those of requests C-11 to C-16, over the public interface.
+//! Document 01's worked cases and boundaries, and those of requests C-11 to C-17, over the public interface.
 
 mod exactness;
 mod half_shafts;
@@ -7,6 +7,7 @@ mod queries;
 mod reckoned;
 mod refusals;
 mod refused_numbers;
+mod retarders;
 mod steps;
 mod support;
 mod traces;
