@@ -1,6 +1,7 @@
--- Signed fractions of whole numbers, with their sum, difference, product and order. Assumes nothing.
-use Rattle.std.specs.Prelude.{ℕ, suc, ◌+◌, ◌*◌, ◌≤◌, ◌<◌, max, cond, leb, ℤ, pos, negsuc}
+-- Signed fractions of whole numbers, with their sum, difference, product and order, and how they are rounded up. Assumes nothing.
+use Rattle.std.specs.Prelude.{ℕ, suc, ◌+◌, ◌-◌, ◌*◌, ◌≤◌, ◌<◌, max, cond, leb, ℤ, pos, negsuc}
 use Rattle.std.proofs.Common.{arith, mul-pos}
+use Rattle.arith.specs.Quotient.{quotient_up}
 
 infixl 70 ◌⊗◌
 infixl 65 ◌⊕◌ ◌⊖◌
@@ -79,6 +80,10 @@ Same x y = (x ≼ y) × (y ≼ x)
 -- the larger of two fractions
 unfoldable pub larger : Fraction → Fraction → Fraction
 larger x y = cond (leb (cleared x y) (cleared y x)) y x
+
+-- x rounded up to a whole number; one under zero has 0
+unfoldable pub round_up : Fraction → ℕ
+round_up x = quotient_up (x.plus - x.minus) x.den
 
 -- z is x rounded up to a whole number: not below it, and less than one above it
 pub record RoundsUp (x : Fraction) (z : ℤ) : Type 0 where

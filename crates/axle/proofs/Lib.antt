@@ -3,3 +3,4 @@ pub mod Building
 pub mod ListedMaps
 pub mod Index
 pub mod SensorSteps
+pub mod RetarderDrag

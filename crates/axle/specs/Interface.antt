@@ -14,6 +14,7 @@ use Rattle.axle.specs.declared.AxleNearest.{AxleNearest}
 use Rattle.axle.specs.declared.AxleLength.{AxleLength}
 use Rattle.axle.specs.declared.AxleWritten.{AxleWritten}
 use Rattle.axle.specs.declared.AxleSteps.{AxleSteps}
+use Rattle.axle.specs.declared.AxleDrag.{AxleDrag}
 use Rattle.axle.specs.declared.AxleNumbers.{AxleNumbers}
 
 -- whether an index is told, 1 or 0
@@ -73,6 +74,11 @@ no_steps = record { temperature_on_sensitivity = 0; temperature_on_zero = 0; cal
 abbrev pub steps_of : Outcome Steps → AxleSteps
 steps_of (accepted steps) = with_steps 0 0 0 0 steps
 steps_of (refused t) = with_steps t.number (has_index t.index) t.place (index_or_zero t.index) no_steps
+
+-- the drag of a retarder
+abbrev pub drag_of : Outcome ℕ → AxleDrag
+drag_of (accepted n) = record { refusal = 0; place = 0; drag = n }
+drag_of (refused t) = record { refusal = t.number; place = t.place; drag = 0 }
 
 -- numbers that C hands over
 abbrev pub numbers_in : AxleNumbers → Numbers

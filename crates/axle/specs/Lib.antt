@@ -2,3 +2,4 @@
 pub mod Interface
 pub mod Build
 pub mod Steps
+pub mod Drag

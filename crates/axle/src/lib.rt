@@ -11,9 +11,10 @@ ghost use Rattle.lookup.specs.Nearest.{nearest_answer};
 ghost use Rattle.listing.specs.Listing.{listing, listed};
 ghost use Rattle.buffer.specs.Written.{content_of};
 ghost use Rattle.writer.specs.Written.{written, file_after};
-ghost use Rattle.axle.specs.Interface.{status_of, loss_of, nearest_of, length_of, written_of, steps_of, numbers_in};
+ghost use Rattle.axle.specs.Interface.{status_of, loss_of, nearest_of, length_of, written_of, steps_of, drag_of, numbers_in};
 ghost use Rattle.axle.specs.Build.{BuiltOf, LoadedOf, BuildsForC, LoadsForC};
 ghost use Rattle.axle.specs.Steps.{StepsForC};
+ghost use Rattle.axle.specs.Drag.{DragForC};
 
 use cell::Point;
 use grid::{Axis, Grid};
@@ -111,6 +112,15 @@ pub struct AxleSteps {
     pub calibration: u64,
     pub parasitic_loads: u64,
     pub uncertainty: u64,
+}
+
+// The drag of a retarder in hundredths of Nm, 0 where it is refused.
+#[repr(C)]
+#[derive(Clone, Copy)]
+pub struct AxleDrag {
+    pub refusal: u32,
+    pub place: usize,
+    pub drag: u32,
 }
 
 // The numbers of component data but for its rows, plain ones, as C hands them over. A sensor's nine numbers are in the order of the data; of kind 3 output is the left one.
@@ -265,6 +275,19 @@ impl From<Result<Steps, Refusal>> for AxleSteps {
     }
 }
 
+impl From<Result<u32, Refusal>> for AxleDrag {
+    ghost from_gives = { λ answer drag. drag ≡ drag_of (outcome_of answer) };
+
+    fn from(answer: Result<u32, Refusal>) -> AxleDrag {
+        let status = status_of(&answer);
+        AxleDrag {
+            refusal: status.refusal,
+            place: status.place,
+            drag: answer.unwrap_or(0),
+        }
+    }
+}
+
 // The axes that C lends.
 fn grid_of(speeds: &[u16; 32], speed_count: usize, torques: &[u16; 64], torque_count: usize) -> Grid
     ensures { result ≡ grid_of speeds.now speed_count torques.now torque_count }
@@ -388,4 +411,17 @@ pub fn axle_steps(sensor: &[u16; 9], torque: u32) -> AxleSteps
     ensures { StepsForC sensor.now torque result }
 {
     loss::sensor_steps(Sensor::from(*sensor), torque).into()
+}
+
+// The drag of a retarder, from its readings and bearing losses in hundredths of Nm, the step-up ratio in thousandths and the drive
+// speed in tenths of rpm.
+pub fn axle_retarder_drag(
+    readings: &[u32],
+    bearing_losses: &[u32],
+    ratio: u32,
+    speed: u32,
+) -> AxleDrag
+    ensures { DragForC readings.now bearing_losses.now ratio speed result }
+{
+    retarder::drag(readings, bearing_losses, ratio, speed).into()
 }

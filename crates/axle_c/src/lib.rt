@@ -12,9 +12,11 @@ ghost use Rattle.writer.specs.Written.{written, file_after};
 ghost use Rattle.axle.specs.Interface.{loss_of, nearest_of, length_of, written_of, numbers_in};
 ghost use Rattle.axle.specs.Build.{BuildsForC, LoadsForC};
 ghost use Rattle.axle.specs.Steps.{StepsForC};
+ghost use Rattle.axle.specs.Drag.{DragForC};
 
 use axle::{
-    AxleAxes, AxleBuilt, AxleLength, AxleLoss, AxleNearest, AxleNumbers, AxleSteps, AxleWritten,
+    AxleAxes, AxleBuilt, AxleDrag, AxleLength, AxleLoss, AxleNearest, AxleNumbers, AxleSteps,
+    AxleWritten,
 };
 
 // Builds the map of component data: its axes in the answer, its entries in the lent slice.
@@ -114,4 +116,18 @@ pub extern "C" fn axle_steps(sensor: &[u16; 9], torque: u32) -> AxleSteps
     ensures { StepsForC sensor.now torque result }
 {
     axle::axle_steps(sensor, torque)
+}
+
+// The drag of a retarder, from its readings and bearing losses in hundredths of Nm, the step-up ratio in thousandths and the drive
+// speed in tenths of rpm.
+#[unsafe(no_mangle)]
+pub extern "C" fn axle_retarder_drag(
+    readings: &[u32],
+    bearing_losses: &[u32],
+    ratio: u32,
+    speed: u32,
+) -> AxleDrag
+    ensures { DragForC readings.now bearing_losses.now ratio speed result }
+{
+    axle::axle_retarder_drag(readings, bearing_losses, ratio, speed)
 }

@@ -14,14 +14,14 @@ use Rattle.cell.specs.declared.Point.{Point}
 use Rattle.lookup.proofs.Axes.{Rising, RisingAxes, rise_lt}
 use Rattle.lookup.proofs.Weights.{is_weight, wide, tall}
 
-same_is : {x y : Fraction} {p m d : ℕ} → Is x p m d → Is y p m d → Same x y
+pub same_is : {x y : Fraction} {p m d : ℕ} → Is x p m d → Is y p m d → Same x y
 same_is i j = (at_most i j (le_refl _), at_most j i (le_refl _))
 
 same_trans : (x y z : Fraction) → Same x y → Same y z → Same x z
 same_trans x y z h k = (at_most_trans x y z h.0 k.0, at_most_trans z y x k.1 h.1)
 
 -- fractions that are the same at each two indices of which the first is lower are so at any two
-any_two : (f : ℕ → Fraction) (P : ℕ → Type 0) → ((i j : ℕ) → i < j → P i → P j → Same (f i) (f j)) → (i j : ℕ) → P i → P j → Same (f i) (f j)
+pub any_two : (f : ℕ → Fraction) (P : ℕ → Type 0) → ((i j : ℕ) → i < j → P i → P j → Same (f i) (f j)) → (i j : ℕ) → P i → P j → Same (f i) (f j)
 any_two f P up i j a b = go (dec_lt i j) (dec_lt j i)
   where
     go : Dec (i < j) → Dec (j < i) → Same (f i) (f j)
@@ -36,7 +36,7 @@ module _ (ns : List ℕ) (r : Rising ns) (scale v : ℕ) where
   rise_scaled : 0 < scale → (i j : ℕ) → i < j → j < length ns → scale * get_or ns i 0 < scale * get_or ns j 0
   rise_scaled h i j l b = mul-lt-mul_of_pos_left (rise_lt ns r i j l b) h
 
-  neighbours : 0 < scale → (i j : ℕ) → j + 1 < length ns → v ≤ scale * get_or ns (i + 1) 0 → scale * get_or ns j 0 ≤ v → i < j → (j ≡ i + 1) × (v ≡ scale * get_or ns (i + 1) 0)
+  pub neighbours : 0 < scale → (i j : ℕ) → j + 1 < length ns → v ≤ scale * get_or ns (i + 1) 0 → scale * get_or ns j 0 ≤ v → i < j → (j ≡ i + 1) × (v ≡ scale * get_or ns (i + 1) 0)
   neighbours s i j b h l a = go (dec_lt (i + 1) j)
     where
       go : Dec (i + 1 < j) → (j ≡ i + 1) × (v ≡ scale * get_or ns (i + 1) 0)

@@ -20,13 +20,13 @@ pub struct GridPoint {
     pub torque: u16,
 }
 
-// The numbers of an axis, and how many units of a query each of them counts.
+// The numbers of an axis, two or more, and how many units of a query each of them counts.
 #[derive(Clone, Copy)]
-struct ScaledAxis<'a> {
+pub struct ScaledAxis<'a> {
     pub numbers: &'a [u16],
     pub scale: u64,
-    pub ghost not_empty: { 0 < length numbers.now },
-    pub ghost fits: { scale ≤ 100 },
+    pub ghost two: { 2 ≤ length numbers.now },
+    pub ghost fits: { scale ≤ 10000 },
 }
 
 // Both axes of a grid, speeds in tenths of rpm and torques in hundredths of Nm.
@@ -47,6 +47,19 @@ fn scaled_axes(grid: &Grid) -> (ScaledAxis<'_>, ScaledAxis<'_>)
     (speeds, torques)
 }
 
+// The index of the last of the numbers, each times scale, that is at or below v.
+fn last_at_or_below(numbers: &[u16], scale: u64, v: u64) -> Option<usize>
+    requires { scale ≤ 10000 }
+    ensures { MatchOption result
+        (EachIndex numbers.now (λ k. v < scale * slice_index numbers.now k))
+        (λ i. (i < length numbers.now) × (scale * slice_index numbers.now i ≤ v)
+        × ((k : ℕ) → i < k → k < length numbers.now → v < scale * slice_index numbers.now k)) }
+{
+    numbers
+        .iter()
+        .rposition(|number| scale * u64::from(*number) <= v)
+}
+
 impl ScaledAxis<'_> {
     // Number i, in the units of a query.
     fn at(&self, i: usize) -> u64
@@ -62,29 +75,13 @@ impl ScaledAxis<'_> {
         self.at(self.numbers.len() - 1)
     }
 
-    // The index of the last number at or below v.
-    fn last_at_or_below(&self, v: u64) -> Option<usize>
-        ensures { MatchOption result
-            (EachIndex self.now.numbers.now (λ k. v < self.now.scale * slice_index self.now.numbers.now k))
-            (λ i. (i < length self.now.numbers.now) × (self.now.scale * slice_index self.now.numbers.now i ≤ v)
-            × ((k : ℕ) → i < k → k < length self.now.numbers.now → v < self.now.scale * slice_index self.now.numbers.now k)) }
-    {
-        self.numbers
-            .iter()
-            .rposition(|number| self.scale * u64::from(*number) <= v)
-    }
-
     // The index of the lower neighbour of v: the last number at or below v, but for the last of all; the first where v is
     // below all.
-    fn neighbour(&self, v: u64) -> usize
-        requires { 2 ≤ length self.now.numbers.now }
+    pub fn neighbour(&self, v: u64) -> usize
         ensures { result ≡ neighbour self.now.numbers.now self.now.scale v }
     {
-        let lower = ScaledAxis {
-            numbers: &self.numbers[..self.numbers.len() - 1],
-            scale: self.scale,
-        };
-        lower.last_at_or_below(v).unwrap_or(0)
+        let lower = &self.numbers[..self.numbers.len() - 1];
+        last_at_or_below(lower, self.scale, v).unwrap_or(0)
     }
 
     // How far a number is from v.

@@ -1,18 +1,15 @@
--- Laws of values over one denominator, of the larger fraction, and of rounding up. Assumes nothing.
-use Prim.Native.Nat.{ℕ, ◌+◌, ◌*◌, ◌-◌, ◌≤◌, ◌<◌}
-use mathlib.Core.Path.{◌≡◌, refl, sym, ap, ◌∙◌}
+-- Laws of values over one denominator, and of the larger fraction. Assumes nothing.
+use Prim.Native.Nat.{ℕ, ◌+◌, ◌-◌, ◌≤◌, ◌<◌}
+use mathlib.Core.Path.{◌≡◌, refl}
 use mathlib.Core.Bool.{Bool, true, false, cond}
 use native.Mathlib.Omega.{arith}
 use native.Mathlib.Decide.{dec_le}
 use native.Mathlib.Nat.{mul-le-mul_right, le_of_mul-le-mul_right, lt_of_mul-lt-mul_right, le_of_lt, mul-lt-mul_of_pos_right}
 use borrow.Author.Tests.{leb-true, leb-false, ltb-true, ltb-false}
 use lib.Dec.{leb, ltb}
-use lib.IntN.{pos}
-use Rattle.arith.specs.Quotient.{quotient_up, QuotientUp, quotient_up_law}
-use Rattle.arith.specs.Fraction.{Fraction, ◌over◌, whole, ◌⊖◌, cleared, ◌≼◌, ◌≺◌, larger, RoundsUp, Same}
-use Rattle.arith.proofs.Quotients.{is_quotient_up}
-use Rattle.arith.proofs.Fractions.{Is, is_itself, is_whole, is_over, is_signed_pos, is_also, is_subtracted, is_difference, is_plus_whole, at_most, at_most_of, below, below_of}
-use Rattle.loss.specs.Rounding.{round_up, part_above, under_zero}
+use Rattle.arith.specs.Fraction.{Fraction, ◌over◌, whole, ◌⊖◌, cleared, ◌≼◌, ◌≺◌, larger, Same}
+use Rattle.arith.proofs.Fractions.{Is, is_itself, is_whole, is_over, is_also, is_subtracted, is_difference, at_most, at_most_of, below, below_of}
+use Rattle.loss.specs.Rounding.{part_above, under_zero}
 
 -- ---- the order of values over one denominator
 
@@ -78,59 +75,6 @@ is_part_above {x} {y} {n} {k} {d} i j = go (dec_le k n)
     go : Dec (k ≤ n) → Is (larger (x ⊖ y) (whole 0)) (n - k) 0 d
     go (yes h) = let e : n + 0 - (0 + k) ≡ n - k = omega arith in rw (← e) (is_subtracted (omega arith) (larger_left (is_difference i j) zero (omega arith)))
     go (no h) = let z : n - k ≡ 0 = omega arith in rw z (larger_right (is_difference i j) zero (omega arith))
-
--- ---- rounding up
-
--- it looks at the value alone
-pub round_up_is : {x : Fraction} {p m d : ℕ} → Is x p m d → round_up x ≡ quotient_up (p - m) d
-unfolding round_up
-round_up_is {x} {p} {m} {d} i =
-    sym (is_quotient_up x.above (record {
-      not_below = le_of_mul-le-mul_right {k = d} (omega (arith, scaled, mul-le-mul_right x.den u.not_below)) i.pos;
-      near = lt_of_mul-lt-mul_right d (omega (arith, scaled, mul-lt-mul_of_pos_right u.near x.above));
-    }))
-  where
-    q : ℕ
-    q = quotient_up (p - m) d
-
-    u : QuotientUp (p - m) d (quotient_up (p - m) d)
-    u = quotient_up_law (p - m) d i.pos
-
-    scaled : (x.plus - x.minus) * d ≡ (p - m) * x.den
-    scaled = go (dec_le m p)
-      where
-        go : Dec (m ≤ p) → (x.plus - x.minus) * d ≡ (p - m) * x.den
-        go (yes h) =
-            let a : x.minus ≤ x.plus = le_of_mul-le-mul_right {k = d} (omega (arith, i.same, mul-le-mul_right x.den h)) i.pos in
-            let b : x.plus - x.minus + x.minus ≡ x.plus = omega arith in
-            let c : p - m + m ≡ p = omega arith in
-            omega (arith, i.same, ap (λ (n : ℕ). n * d) b, ap (λ (n : ℕ). n * x.den) c)
-        go (no h) =
-            let l : p < m = omega arith in
-            let a : x.plus ≤ x.minus = le_of_mul-le-mul_right {k = d} (omega (arith, i.same, mul-le-mul_right x.den l)) i.pos in
-            let b : x.plus - x.minus ≡ 0 = omega arith in
-            let c : p - m ≡ 0 = omega arith in
-            rw (b, c) (omega arith)
-
-pub round_up_natural : {x : Fraction} {n d : ℕ} → Is x n 0 d → round_up x ≡ quotient_up n d
-round_up_natural {n = n} {d = d} i =
-    let z : n - 0 ≡ n = omega arith in
-    round_up_is i ∙ ap (λ (k : ℕ). quotient_up k d) z
-
--- the number that it gives, in numbers
-pub round_up_law : {x : Fraction} {p m d : ℕ} → Is x p m d → QuotientUp (p - m) d (round_up x)
-round_up_law {p = p} {m = m} {d = d} i = rw (round_up_is i) (quotient_up_law (p - m) d i.pos)
-
--- of a fraction that is not negative, it is the whole number not below it and less than one above it
-pub round_up_rounds : (x : Fraction) → whole 0 ≼ x → RoundsUp x (pos (round_up x))
-round_up_rounds x h =
-    let i = is_itself x in
-    let n : x.minus ≤ x.plus = not_negative_of i h in
-    let u = round_up_law i in
-    record {
-      not_below = at_most i (is_signed_pos (round_up x)) (omega (arith, u.not_below));
-      near = below (is_signed_pos (round_up x)) (is_plus_whole 1 i) (omega (arith, u.near));
-    }
 
 -- ---- under zero
 

@@ -6,15 +6,16 @@ use native.Mathlib.Omega.{arith}
 use native.Mathlib.Decide.{dec_le}
 use lib.Dec.{ltb}
 use Rattle.arith.specs.Quotient.{quotient_up}
-use Rattle.arith.specs.Fraction.{Fraction, ◌over◌, whole, ◌⊕◌, ◌⊗◌, larger}
+use Rattle.arith.specs.Fraction.{Fraction, ◌over◌, whole, ◌⊕◌, ◌⊗◌, larger, round_up}
 use Rattle.arith.proofs.Fractions.{Is, is_over, is_whole, is_also, is_subtracted, is_sum, is_difference, is_product, is_natural_product, is_larger}
+use Rattle.arith.proofs.Rounding.{round_up_is, round_up_natural}
 use Rattle.loss.specs.declared.Line.{Line}
 use Rattle.loss.specs.Standard.{line_of, standard_loss, standard_entry}
 use Rattle.std.proofs.Common.{Option, Some, None}
 use Rattle.std.specs.Option.{SomeIff}
 use Rattle.loss.specs.Measured.{measured_loss, loss_is_under_zero, allowance, from_grains, entry_of, LossSays}
-use Rattle.loss.specs.Rounding.{round_up, part_above}
-use Rattle.loss.proofs.Rounding.{is_same, is_part_above, larger_right, round_up_is, round_up_natural, under_zero_is}
+use Rattle.loss.specs.Rounding.{part_above}
+use Rattle.loss.proofs.Rounding.{is_same, is_part_above, larger_right, under_zero_is}
 
 -- ---- the standard loss
 

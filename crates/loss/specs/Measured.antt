@@ -4,12 +4,12 @@ use Rattle.std.proofs.Common.{le_antisymm, arith}
 use Rattle.arith.specs.Quotient.{quotient_up, quotient_up_law, quotient_up_least}
 use Rattle.arith.specs.Root.{root_up}
 use Rattle.arith.proofs.Roots.{root_up_law}
-use Rattle.arith.specs.Fraction.{Fraction, ◌over◌, whole, ◌⊕◌, ◌⊖◌, ◌⊗◌, larger, Same}
+use Rattle.arith.specs.Fraction.{Fraction, ◌over◌, whole, ◌⊕◌, ◌⊖◌, ◌⊗◌, larger, Same, round_up}
 use Rattle.sensor.specs.Sensor.{SensorRules}
 use Rattle.sensor.specs.declared.Sensor.{Sensor}
 use Rattle.loss.specs.declared.FixedParts.{FixedParts}
 use Rattle.loss.specs.declared.Steps.{Steps}
-use Rattle.loss.specs.Rounding.{round_up, part_above, under_zero}
+use Rattle.loss.specs.Rounding.{part_above, under_zero}
 
 -- ---- one sensor: its parts a, b, g and h and its uncertainty U, in grains; C is its torque in hundredths of Nm
 

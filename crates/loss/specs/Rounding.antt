@@ -1,11 +1,6 @@
--- A fraction rounded up to a whole number, the part of one fraction above another, and a fraction under zero. Assumes nothing.
-use Rattle.std.specs.Prelude.{ℕ, ◌-◌, Bool, ltb}
-use Rattle.arith.specs.Quotient.{quotient_up}
+-- The part of one fraction above another, and a fraction under zero. Assumes nothing.
+use Rattle.std.specs.Prelude.{Bool, ltb}
 use Rattle.arith.specs.Fraction.{Fraction, whole, ◌⊖◌, larger}
-
--- a fraction rounded up to a whole number; one under zero has 0
-unfoldable pub round_up : Fraction → ℕ
-round_up x = quotient_up (x.plus - x.minus) x.den
 
 -- what x has above y, 0 where it has nothing
 unfoldable pub part_above : Fraction → Fraction → Fraction

@@ -1,9 +1,8 @@
 -- Document 01, "Standard loss", with the table of Annex VII, Appendix 3. Assumes nothing.
 use Rattle.std.specs.Prelude.{ℕ, ◌-◌, ◌≤◌, Bool, true, ◌&&◌, List, [], ◌∷◌, ◌≡◌, refl, leb, eqb, get_or}
 use Rattle.grid.specs.Every.{every}
-use Rattle.arith.specs.Fraction.{Fraction, ◌over◌, whole, ◌⊕◌, ◌⊗◌}
+use Rattle.arith.specs.Fraction.{Fraction, ◌over◌, whole, ◌⊕◌, ◌⊗◌, round_up}
 use Rattle.loss.specs.declared.Line.{Line}
-use Rattle.loss.specs.Rounding.{round_up}
 
 -- a line: efficiency in %, T0 and T1 in Nm
 abbrev pub line : ℕ → ℕ → ℕ → Line

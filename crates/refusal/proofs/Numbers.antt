@@ -3,10 +3,10 @@ use Prim.Native.Nat.{◌≤◌}
 use native.Mathlib.Omega.{arith}
 use Rattle.refusal.specs.Table.{number}
 use Rattle.refusal.specs.declared.Refusal.{Refusal}
-use Rattle.refusal.specs.declared.Refusal.TheVariants.{Incomplete, WrongTag, WrongLength, OutOfRange, NotRising, FirstTorqueAboveStep, AboveNominal, OffAxisTorque, NegativeLoss, EntryTooLarge, TooShort, TrailingBytes, SpeedOutside, TorqueAbove, NotAMap, FileTooShort, RatioOutOfRange, SensorOutOfRange, WrongHeader, WrongLine, BrokenRun}
+use Rattle.refusal.specs.declared.Refusal.TheVariants.{Incomplete, WrongTag, WrongLength, OutOfRange, NotRising, FirstTorqueAboveStep, AboveNominal, OffAxisTorque, NegativeLoss, EntryTooLarge, TooShort, TrailingBytes, SpeedOutside, TorqueAbove, NotAMap, FileTooShort, RatioOutOfRange, SensorOutOfRange, WrongHeader, WrongLine, BrokenRun, RetarderOutOfLimits, DragOutOfRange, RetarderSpeedOutside}
 
--- each is from 1 to 42
-pub number_between : (x : Refusal) → (1 ≤ number x) × (number x ≤ 42)
+-- each is from 1 to 47
+pub number_between : (x : Refusal) → (1 ≤ number x) × (number x ≤ 47)
 number_between (Incomplete p) = (omega arith, omega arith)
 number_between (WrongTag p) = (omega arith, omega arith)
 number_between (WrongLength p) = (omega arith, omega arith)
@@ -28,3 +28,6 @@ number_between (SensorOutOfRange p i) = (omega arith, omega arith)
 number_between WrongHeader = (omega arith, omega arith)
 number_between (WrongLine p) = (omega arith, omega arith)
 number_between (BrokenRun p) = (omega arith, omega arith)
+number_between RetarderOutOfLimits = (omega arith, omega arith)
+number_between DragOutOfRange = (omega arith, omega arith)
+number_between RetarderSpeedOutside = (omega arith, omega arith)

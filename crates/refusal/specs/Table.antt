@@ -1,8 +1,8 @@
--- Document 01, "Refusals", and document 02, C-12 (30), C-14 (31, 32) and C-16 (40 to 42): the number and the place of each case, and which number of its field it was. Where no place is given it is 0.
+-- Document 01, "Refusals", and document 02, C-12 (30), C-14 (31, 32), C-16 (40 to 42) and C-17 (45 to 47): the number and the place of each case, and which number of its field it was. Where no place is given it is 0.
 use Rattle.std.specs.Prelude.{ℕ, Option, Some, None, Result, Ok, Err}
 use Rattle.refusal.specs.Outcome.{Told, Outcome, accepted, refused}
 use Rattle.refusal.specs.declared.Refusal.{Refusal}
-use Rattle.refusal.specs.declared.Refusal.TheVariants.{Incomplete, WrongTag, WrongLength, OutOfRange, NotRising, FirstTorqueAboveStep, AboveNominal, OffAxisTorque, NegativeLoss, EntryTooLarge, TooShort, TrailingBytes, SpeedOutside, TorqueAbove, NotAMap, FileTooShort, RatioOutOfRange, SensorOutOfRange, WrongHeader, WrongLine, BrokenRun}
+use Rattle.refusal.specs.declared.Refusal.TheVariants.{Incomplete, WrongTag, WrongLength, OutOfRange, NotRising, FirstTorqueAboveStep, AboveNominal, OffAxisTorque, NegativeLoss, EntryTooLarge, TooShort, TrailingBytes, SpeedOutside, TorqueAbove, NotAMap, FileTooShort, RatioOutOfRange, SensorOutOfRange, WrongHeader, WrongLine, BrokenRun, RetarderOutOfLimits, DragOutOfRange, RetarderSpeedOutside}
 
 abbrev pub number : Refusal → ℕ
 number (Incomplete p) = 1
@@ -26,6 +26,9 @@ number (SensorOutOfRange p i) = 32
 number WrongHeader = 40
 number (WrongLine p) = 41
 number (BrokenRun p) = 42
+number RetarderOutOfLimits = 45
+number DragOutOfRange = 46
+number RetarderSpeedOutside = 47
 
 abbrev pub place : Refusal → ℕ
 place (Incomplete p) = p
@@ -49,6 +52,9 @@ place (SensorOutOfRange p i) = p
 place WrongHeader = 0
 place (WrongLine p) = p
 place (BrokenRun p) = p
+place RetarderOutOfLimits = 0
+place DragOutOfRange = 0
+place RetarderSpeedOutside = 0
 
 -- "which number of the field it was, from 0": for these two, and for no other
 abbrev pub index : Refusal → Option ℕ

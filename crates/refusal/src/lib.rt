@@ -54,6 +54,12 @@ pub enum Refusal {
     // 42: a row that breaks its run. The offset of its line's first byte. Or runs that are not whole, or more or fewer of them, or of
     // their rows, than an axis has numbers. The text's length.
     BrokenRun(usize),
+    // 45: of a retarder, a step-up ratio or a count of readings outside its limits, or another count of bearing losses.
+    RetarderOutOfLimits,
+    // 46: a retarder's drag under zero, its reading being less than the bearing loss, or above 10,000,000 hundredths of Nm.
+    DragOutOfRange,
+    // 47: a retarder speed below or above the points that have a reading.
+    RetarderSpeedOutside,
 }
 
 impl Refusal {
@@ -83,6 +89,9 @@ impl Refusal {
             Refusal::WrongHeader => 40,
             Refusal::WrongLine(_) => 41,
             Refusal::BrokenRun(_) => 42,
+            Refusal::RetarderOutOfLimits => 45,
+            Refusal::DragOutOfRange => 46,
+            Refusal::RetarderSpeedOutside => 47,
         }
     }
 
@@ -112,6 +121,9 @@ impl Refusal {
             Refusal::TorqueAbove => 0,
             Refusal::NotAMap => 0,
             Refusal::WrongHeader => 0,
+            Refusal::RetarderOutOfLimits => 0,
+            Refusal::DragOutOfRange => 0,
+            Refusal::RetarderSpeedOutside => 0,
         }
     }
 
@@ -154,6 +166,9 @@ impl Refusal {
             Refusal::WrongHeader => Refusal::WrongHeader,
             Refusal::WrongLine(_) => Refusal::WrongLine(0),
             Refusal::BrokenRun(_) => Refusal::BrokenRun(0),
+            Refusal::RetarderOutOfLimits => Refusal::RetarderOutOfLimits,
+            Refusal::DragOutOfRange => Refusal::DragOutOfRange,
+            Refusal::RetarderSpeedOutside => Refusal::RetarderSpeedOutside,
         }
     }
 }

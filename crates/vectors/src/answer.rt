@@ -16,13 +16,13 @@ static LENT_ENTRIES: [u32; 2049] = [0xA5A5_A5A5; 2049];
 
 static LENT_BYTES: [u8; 65_536] = [0xA5; 65_536];
 
-// So many torques of rows can be written.
+// So many torques of rows can be written, and so many readings and bearing losses together be handed over.
 const MOST_TORQUES: usize = 8192;
 
 // Why a case is not answered, or not to its end.
 #[derive(Drop)]
 enum Fault {
-    // It lends more than there is, a lent map, numbers or a sensor are not whole, or its letter is none of the seven.
+    // It lends or hands over more than there is room for, a lent map, numbers, a sensor or a retarder's numbers are not whole, or its letter is none of the eight.
     NoCase,
     Output(io::Error),
 }
@@ -50,6 +50,7 @@ fn write_whole(out: &mut impl Write, case: &Case) -> Result<(), Fault> {
         Kind::Write => write_file(out, case)?,
         Kind::Steps => write_steps(out, case.body)?,
         Kind::Load => write_loading(out, case)?,
+        Kind::Drag => write_drag(out, case.body)?,
     }
     Ok(())
 }
@@ -274,6 +275,24 @@ fn write_steps(out: &mut impl Write, body: &[u8]) -> Result<(), Fault> {
     let torque = bytes::next_u32(&mut body).ok_or(Fault::NoCase)?;
     match loss::sensor_steps(sensor, torque) {
         Ok(steps) => print::write_steps(out, steps)?,
+        Err(refusal) => print::write_refusal_with_index(out, refusal)?,
+    }
+    Ok(())
+}
+
+// The drag of a retarder.
+fn write_drag(out: &mut impl Write, body: &[u8]) -> Result<(), Fault> {
+    let mut body = body;
+    let ratio = bytes::next_u32(&mut body).ok_or(Fault::NoCase)?;
+    let speed = bytes::next_u32(&mut body).ok_or(Fault::NoCase)?;
+    // (no `From` makes a `u32` a `usize`)
+    let count = bytes::next_u32(&mut body).ok_or(Fault::NoCase)? as usize;
+    let mut room = [0; MOST_TORQUES];
+    let torques = bytes::decode(body, &mut room).ok_or(Fault::NoCase)?;
+    let readings = torques.get(..count).ok_or(Fault::NoCase)?;
+    let bearing_losses = torques.get(count..).ok_or(Fault::NoCase)?;
+    match retarder::drag(readings, bearing_losses, ratio, speed) {
+        Ok(drag) => writeln!(out, "drag {drag}")?,
         Err(refusal) => print::write_refusal_with_index(out, refusal)?,
     }
     Ok(())

@@ -11,6 +11,7 @@ pub enum Kind {
     Write,
     Steps,
     Load,
+    Drag,
 }
 
 impl Kind {
@@ -24,6 +25,7 @@ impl Kind {
             b'w' => Some(Kind::Write),
             b's' => Some(Kind::Steps),
             b'l' => Some(Kind::Load),
+            b'd' => Some(Kind::Drag),
             _ => None,
         }
     }
@@ -31,7 +33,7 @@ impl Kind {
 
 #[derive(Clone, Copy)]
 pub struct Head {
-    // None where the letter is none of the seven.
+    // None where the letter is none of the eight.
     kind: Option<Kind>,
     entries: u16,
     room: u32,

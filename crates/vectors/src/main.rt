@@ -1,13 +1,14 @@
 // Runs the libraries over cases given on standard input, and writes what they answer, so that it can be compared with another implementation.
 // A case is a head of 12 bytes, a body, and so many questions of 8 bytes (speed in tenths of rpm, torque in hundredths of Nm). All numbers are most significant byte first. The head:
-//   1 byte: r to read data into numbers, p for what the map program writes, b to build a map of data, m for a map as a caller may lend it, w to write data from numbers, s for the steps of a sensor, l to load a listing;
+//   1 byte: r to read data into numbers, p for what the map program writes, b to build a map of data, m for a map as a caller may lend it, w to write data from numbers, s for the steps of a sensor, l to load a listing, d for the drag of a retarder;
 //   2 bytes: how many entries are lent;
 //   4 bytes: how many bytes are lent for the listing, or for the file that is written;
-//   4 bytes: the length of the body: data, a lent map, numbers to be written, a sensor with its torque, or the text of a listing;
+//   4 bytes: the length of the body: data, a lent map, numbers to be written, a sensor with its torque, the text of a listing, or a retarder's numbers;
 //   1 byte: how many questions follow the body.
 // A lent map is its axes, which are the count of speeds and the count of torques, 8 bytes each, and the 32 speeds and 64 torques of 2 bytes; then the lent entries of 4 bytes.
 // Numbers to be written are kind, line and ratio, 2 bytes each, the axes as in a lent map, the input, output and right sensor, nine numbers of 2 bytes each, and the torques of the rows, 4 bytes each.
 // A sensor is nine numbers of 2 bytes each, with its torque of 4 bytes.
+// A retarder's numbers are the step-up ratio, the drive speed, how many readings there are, the readings, and to the end the bearing losses, 4 bytes each.
 #![tactic(auto)]
 
 mod answer;

@@ -10,8 +10,7 @@ use lib.Dec.{eqb}
 use lib.IntN.{pos}
 use lib.ListN.{get_or}
 use Rattle.arith.specs.Quotient.{quotient_up}
-use Rattle.arith.specs.Fraction.{Fraction, ◌less◌over◌, ◌over◌, whole, signed, ◌⊕◌, ◌⊖◌, ◌⊗◌, cleared, ◌≼◌, ◌≺◌, RoundsUp}
-use Rattle.loss.specs.Rounding.{round_up}
+use Rattle.arith.specs.Fraction.{Fraction, ◌less◌over◌, ◌over◌, whole, signed, ◌⊕◌, ◌⊖◌, ◌⊗◌, cleared, ◌≼◌, ◌≺◌, RoundsUp, round_up}
 use Rattle.loss.specs.Standard.{line_of, standard_loss, standard_entry}
 use Rattle.loss.specs.Exact.{Cut, cut, exact_standard}
 use Rattle.loss.proofs.Cuts.{square_not_negative}

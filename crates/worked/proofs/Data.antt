@@ -9,7 +9,7 @@ use lib.Dec.{ltb}
 use lib.ListN.{length, get_or}
 use Rattle.arith.specs.Quotient.{quotient_up}
 use Rattle.arith.specs.Root.{root_up}
-use Rattle.arith.specs.Fraction.{◌less◌over◌, ◌over◌, whole, ◌⊕◌, ◌⊖◌, ◌⊗◌, larger}
+use Rattle.arith.specs.Fraction.{◌less◌over◌, ◌over◌, whole, ◌⊕◌, ◌⊖◌, ◌⊗◌, larger, round_up}
 use Rattle.std.proofs.Common.{Ok}
 use Rattle.refusal.specs.Outcome.{accepted, refuse, first_refusal}
 use Rattle.grid.specs.Axis.{within, rises, axis_number, axis_numbers, first_step}
@@ -24,7 +24,7 @@ use Rattle.fields.specs.Sensor.{sensor}
 use Rattle.sensor.specs.Sensor.{sensor_number_check, sensor_check}
 use Rattle.component.specs.Component.{component, output_tags, rows_tag, axle_fields, axes_fields, sensor_fields, kind_fields, measured_fields}
 use Rattle.layout.specs.Rules.{AreBytes}
-use Rattle.loss.specs.Rounding.{round_up, part_above, under_zero}
+use Rattle.loss.specs.Rounding.{part_above, under_zero}
 use Rattle.loss.specs.Measured.{grains_up, temperature_on_sensitivity, temperature_on_zero, calibration, parasitic_loads, sensor_uncertainty, sensor_steps, scaled_uncertainty, reading_uncertainty, loss_uncertainty, measured_loss, loss_is_under_zero, allowance, entry_of, readings, row_uncertainty, measured_entry}
 use Rattle.rows.specs.Rows.{torque_at, outputs_at, row_at, near_axis, outputs_check, row_check}
 use Rattle.map.specs.Build.{entry_of_kind, entry, check_of_kind, check, speed_check, rows_check, speed_entries, entries, map_of, build}

@@ -38,5 +38,5 @@ loop-number-preserved c =
 pub returns : goal.returns
 unfolding nearest_number
 returns c =
-    let e : c.loop-number.number-index + 1 ≡ length c.args.self.now.numbers.now = omega (arith, c.args.self.now.not_empty) in
+    let e : c.loop-number.number-index + 1 ≡ length c.args.self.now.numbers.now = omega (arith, c.args.self.now.two) in
     rw (← e) c.loop-number.invariant.0

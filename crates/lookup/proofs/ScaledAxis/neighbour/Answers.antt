@@ -15,4 +15,4 @@ found ns xs scale v (Some i) two e h =
     neighbour_is ns scale v i (grind (arith, common_steps)) (λ l. grind (arith, common_steps)) (λ k a b. let m = h.2 k a (grind (arith, common_steps)) in grind (arith, common_steps))
 
 pub returns : goal.returns
-returns c = c.unwrap_or.ensures ∙ sym (found c.args.self.now.numbers.now _ _ _ _ c.requires refl c.last_at_or_below.ensures)
+returns c = c.unwrap_or.ensures ∙ sym (found c.args.self.now.numbers.now _ _ _ _ c.args.self.now.two refl c.last_at_or_below.ensures)

@@ -1,0 +1,3 @@
+pub mod SpeedPoints
+pub mod Drag
+pub mod Laws
