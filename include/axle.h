@@ -6,7 +6,9 @@
    Units. On an axis a speed is in whole rpm and a torque in whole Nm, both at
    the wheel. Entries, losses and measured torques: hundredths of Nm. A question's
    speed: tenths of rpm; its torque: hundredths of Nm. Uncertainties: grains, of
-   which 100 make a hundredth of Nm.
+   which 100 make a hundredth of Nm. Of a retarder, readings, bearing losses and drag:
+   hundredths of Nm; its step-up ratio: thousandths; the speed of its drive: tenths of
+   rpm.
 
    Component data says its kind: 1 standard, 2 measured with one sensor at the
    output, 3 measured with one on each half-shaft, left and right, whose torques
@@ -34,7 +36,8 @@
 
    Refusals, by number, with their place. Numbers that axle_write or axle_steps
    refuses stand at no offset: their 3 to 10, 31 and 32 have place 0. So have the
-   4, 5, 6 and 10 of axle_load, which tests each over the whole map.
+   4, 5, 6 and 10 of axle_load, which tests each over the whole map, and all of
+   axle_retarder_drag.
      1 a head or a body that the end of the data cuts off; 2 another tag than the
        one due, or data that ends before the field; 3 a length that the field
        cannot have (of axle_write: a count of axis numbers or of row torques that
@@ -61,7 +64,13 @@
      41 a line that has not the form of a row, or no line feed; 42 a row that breaks
        its run: the offset of the line's first byte, blanks included. 42 also where
        the last run is short, or there are not 2 to 64 torques or not 2 to 32
-       speeds: the text's length */
+       speeds: the text's length
+     45 a step-up ratio outside 100 to 10,000, a count of readings outside 2 to 13, or
+       another count of bearing losses: 0
+     46 a bearing loss above its reading, or a drag above 10,000,000 hundredths of
+       Nm: 0
+     47 a retarder speed below the first or above the last point that has a
+       reading: 0 */
 #ifndef AXLE_H
 #define AXLE_H
 
@@ -139,6 +148,12 @@ typedef struct {
     uint64_t parasitic_loads;            /* h */
     uint64_t uncertainty;                /* U, of the sensor: the root over the four */
 } axle_steps_answer;
+
+typedef struct {
+    uint32_t refusal;
+    size_t place;
+    uint32_t drag; /* hundredths of Nm */
+} axle_drag_answer;
 
 /* The numbers of component data, but for its rows. A sensor's nine numbers are
    N, w, z, c, k, s, p, d, R in the order of the data; docs/FORMAT.md has their
@@ -227,6 +242,22 @@ axle_write_answer axle_write(axle_numbers numbers,
    both with place 0: a number out of its range 32, with its index; a torque above
    100 * N 7. */
 axle_steps_answer axle_steps(const uint16_t sensor[9], uint32_t torque);
+
+/* The drag of a retarder, from what was measured of it as a stand-alone unit: the
+   readings are the measured torques at the first 2 to 13 of the points 200, 400, 600,
+   900, 1,200, 1,600, 2,000, 2,500, 3,000, 3,500, 4,000, 4,500 and 5,000 rpm, as many as
+   there are, and the bearing losses those of the rig at the same points. A point's drag
+   is its reading less its bearing loss.
+   The speed is that of the drive; times the step-up ratio it is the retarder's, which
+   is never rounded. At a point that has a reading the answer is the point's drag.
+   Between two points the drag is linear, rounded up once: never below the exact line,
+   less than 1 hundredth above it, and between the drags of the two points.
+   Refusals, in this order and all with place 0: 45; 46, for which every reading is
+   looked at, also those that the answer does not need; 47, to which both ends are
+   inside. Below 200 rpm there is no answer. */
+axle_drag_answer axle_retarder_drag(const uint32_t *readings, size_t reading_count,
+                                    const uint32_t *bearing_losses, size_t bearing_loss_count,
+                                    uint32_t ratio, uint32_t speed);
 
 #ifdef __cplusplus
 }

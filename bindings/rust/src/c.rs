@@ -70,6 +70,13 @@ pub struct Steps {
 }
 
 #[repr(C)]
+pub struct Drag {
+    pub refusal: u32,
+    pub place: usize,
+    pub drag: u32,
+}
+
+#[repr(C)]
 pub struct Numbers {
     pub kind: u16,
     pub line: u16,
@@ -132,4 +139,12 @@ extern "C" {
         file_length: usize,
     ) -> Written;
     pub fn axle_steps(sensor: *const u16, torque: u32) -> Steps;
+    pub fn axle_retarder_drag(
+        readings: *const u32,
+        reading_count: usize,
+        bearing_losses: *const u32,
+        bearing_loss_count: usize,
+        ratio: u32,
+        speed: u32,
+    ) -> Drag;
 }

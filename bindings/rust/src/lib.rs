@@ -8,7 +8,8 @@
 //! Component data is of kind 1 (standard), 2 (measured with one sensor at the output) or 3
 //! (measured with one on each half-shaft, left and right). Every call takes all three alike;
 //! `docs/FORMAT.md` has them byte by byte. `Numbers` makes such data, `Map::load` takes in a listing,
-//! and `Sensor::steps` answers the steps of one sensor's uncertainty.
+//! `Sensor::steps` answers the steps of one sensor's uncertainty, and `retarder_drag` the drag of a
+//! retarder.
 //!
 //! ```
 //! let data = [
@@ -23,11 +24,13 @@ mod c;
 mod grid;
 mod numbers;
 mod refusal;
+mod retarder;
 mod steps;
 
 pub use grid::Grid;
 pub use numbers::{Numbers, Sensor};
 pub use refusal::Refusal;
+pub use retarder::retarder_drag;
 pub use steps::Steps;
 
 use std::str::FromStr;

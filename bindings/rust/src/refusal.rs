@@ -3,9 +3,9 @@
 use std::fmt;
 
 /// The number of a refusal and its place: an offset into the data or the text, the count needed for
-/// 11, the length needed for 30, and 0 for a refused question, for refused numbers, and for 40, 4,
-/// 5, 6 and 10 of a listing. Where the runs of a listing make no map (42), it is the text's length.
-/// It prints with its words, and with the meaning of its place.
+/// 11, the length needed for 30, and 0 for a refused question, for refused numbers, for 40, 4, 5, 6
+/// and 10 of a listing, and for a refused drag. Where the runs of a listing make no map (42), it is
+/// the text's length. It prints with its words, and with the meaning of its place.
 #[derive(Clone, Copy, PartialEq, Eq, Debug)]
 pub struct Refusal {
     pub number: u32,
@@ -76,6 +76,9 @@ impl Refusal {
             40 => "first line other than speed,torque,loss, or without its line feed",
             41 => "line without the form of a row, or without its line feed",
             42 => "row that breaks its run, or runs that make no map",
+            45 => "step-up ratio out of range, or not 2 to 13 readings with as many bearing losses",
+            46 => "bearing loss above its reading, or drag above 100000.00 Nm",
+            47 => "retarder speed outside the points that have readings",
             _ => return None,
         })
     }

@@ -1,5 +1,7 @@
-//! docs/FORMAT.md held to the library: the dumps, the fields of each kind, each limit of its tables and of its words and one beyond it, the axle lines, the text of numbers, the form of a listing, and each refusal as the page tries it.
+//! docs/FORMAT.md held to the library: the dumps, the fields of each kind, each limit of its tables and of its words and one beyond it, the axle lines, the text of numbers, the form of a listing, the drag of a retarder, and each refusal as the page tries it.
 
+#[path = "format/drags.rs"]
+mod drags;
 #[path = "format/dumps.rs"]
 mod dumps;
 #[path = "format/listings.rs"]

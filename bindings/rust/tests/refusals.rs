@@ -1,5 +1,6 @@
 //! Every refusal of a build with its place, and how refusals print. Those of rows and sensors are
-//! tried on kind 2 here, and on kind 3 in half_shafts.rs; those of a load in loading.rs.
+//! tried on kind 2 here, and on kind 3 in half_shafts.rs; those of a load in loading.rs, those of a
+//! drag in retarder.rs.
 
 use axle::{build, Map, Refusal, READING_LIMIT};
 
@@ -172,7 +173,19 @@ fn refusals_print_by_their_words() {
         text(42, 45),
         "refused 42 at 45: row that breaks its run, or runs that make no map (the line's offset, or the text's length)"
     );
-    for number in [0, 13, 19, 23, 29, 33, 39, 43, u32::MAX] {
+    assert_eq!(
+        text(45, 0),
+        "refused 45 at 0: step-up ratio out of range, or not 2 to 13 readings with as many bearing losses"
+    );
+    assert_eq!(
+        text(46, 0),
+        "refused 46 at 0: bearing loss above its reading, or drag above 100000.00 Nm"
+    );
+    assert_eq!(
+        text(47, 0),
+        "refused 47 at 0: retarder speed outside the points that have readings"
+    );
+    for number in [0, 13, 19, 23, 29, 33, 39, 43, 44, 48, u32::MAX] {
         assert_eq!(text(number, 5), format!("refused {} at 5", number));
     }
     let text = |number, place, index| of_number(number, place, index).to_string();
@@ -215,11 +228,12 @@ fn refused_numbers_print_without_an_offset() {
 #[test]
 fn every_number_has_words_of_its_own() {
     let mut all: Vec<String> = Vec::new();
-    for number in (1..=12).chain(20..=22).chain(30..=32).chain(40..=42) {
+    let with_words = [1..=12, 20..=22, 30..=32, 40..=42, 45..=47];
+    for number in with_words.into_iter().flatten() {
         let text = refusal(number, 5).to_string();
         let words = text.strip_prefix(&format!("refused {} at 5: ", number));
         let words = words.expect("words").to_string();
-        let has_place = !matches!(number, 20..=22 | 40);
+        let has_place = !matches!(number, 20..=22 | 40 | 45..=47);
         assert_eq!(words.ends_with(')'), has_place, "{}", words);
         assert!(!all.contains(&words), "{}", words);
         all.push(words);

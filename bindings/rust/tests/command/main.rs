@@ -1,6 +1,7 @@
 //! The command `axle` as scripts run it.
 
 mod answers;
+mod drag;
 mod examples;
 mod load;
 #[path = "../parsed/mod.rs"]

@@ -16,6 +16,7 @@ fn help() {
         "axle load --list LISTING ",
         "axle write NUMBERS ",
         "axle steps N w z c k s p d R TORQUE ",
+        "axle drag RATIO SPEED READINGS BEARING_LOSSES ",
         "  kind  ",
         "  row  ",
         "rpm",
@@ -41,7 +42,7 @@ fn examples_in_the_help() {
         assert_answered(run(arguments), &format!("{}\n", answer));
         count += 1;
     }
-    assert_eq!(count, 3);
+    assert_eq!(count, 4);
 }
 
 #[track_caller]
@@ -52,7 +53,7 @@ fn assert_wrong_usage(arguments: &[&str], what: &str, usage: &str) {
 
 #[test]
 fn no_command() {
-    let usage = "axle list|loss|nearest|check|load|write|steps .., or axle --help";
+    let usage = "axle list|loss|nearest|check|load|write|steps|drag .., or axle --help";
     assert_wrong_usage(&[], "no command given", usage);
     assert_wrong_usage(&["lists"], "unknown command \"lists\"", usage);
     assert_wrong_usage(&["", STANDARD], "unknown command \"\"", usage);

@@ -2,7 +2,7 @@
 
 use crate::failure::Failure;
 use crate::listings;
-use crate::numbers::{hundredths, short, Quantity, SPEED, TORQUE};
+use crate::numbers::{hundredths, short, Quantity, BEARING_LOSSES, RATIO, READINGS, SPEED, TORQUE};
 use crate::numbers_text;
 use crate::sensors;
 use crate::streams;
@@ -69,6 +69,12 @@ pub const COMMANDS: &[Command] = &[
         arguments: &STEPS_ARGUMENTS,
         help: "the steps of a sensor's uncertainty, in grains",
         function: steps,
+    },
+    Command {
+        name: "drag",
+        arguments: &[RATIO.name, SPEED.name, READINGS.name, BEARING_LOSSES.name],
+        help: "the drag of a retarder, in Nm",
+        function: drag,
     },
 ];
 
@@ -230,4 +236,15 @@ fn steps(arguments: &[OsString]) -> Result<Vec<u8>, Failure> {
         .map(|(name, grains)| format!("{name} {grains}\n"))
         .collect();
     Ok(lines.into_bytes())
+}
+
+/// A number that is too large for the library is a failure, as in a question. The largest that it takes
+/// does not stand in for it: a reading less its bearing loss would be another drag.
+fn drag(arguments: &[OsString]) -> Result<Vec<u8>, Failure> {
+    let ratio = RATIO.number(&arguments[0])?;
+    let speed = SPEED.number(&arguments[1])?;
+    let readings = READINGS.list(&arguments[2])?;
+    let bearing_losses = BEARING_LOSSES.list(&arguments[3])?;
+    let drag = axle::retarder_drag(&readings, &bearing_losses, ratio, speed)?;
+    Ok(format!("{}\n", hundredths(i64::from(drag))).into_bytes())
 }

@@ -5,20 +5,28 @@ use crate::failure::Failure;
 
 const ABOUT: &str = "\
 axle: the loss map of an axle's component data, such data made from numbers, a listing
-taken in, and the steps of a sensor's uncertainty
+taken in, the steps of a sensor's uncertainty, and the drag of a retarder
 
 usage:
 ";
 
 const DETAILS: &str = "
 FILE     component data; - for standard input; ./-name for a name that begins with -
-SPEED    speed at the wheel in rpm, at most one digit after the point
+SPEED    speed at the wheel in rpm, at most one digit after the point; of drag, the speed
+         of the retarder's drive
 TORQUE   torque at the wheel in Nm, at most two digits after the point; of steps, the
          torque that the sensor measured
 LISTING  a listing as list writes it; spaces and tabs at both ends of its lines are not
          looked at; - for standard input
 NUMBERS  a text with the numbers of component data; - for standard input
 N to R   the whole numbers of a sensor, in the order of the data
+RATIO    step-up ratio of a retarder, its speed over that of its drive, from 0.1 to 10, at
+         most three digits after the point
+READINGS, BEARING_LOSSES
+         torques in Nm, at most two digits after the point, joined by commas: what was
+         measured of the retarder as a stand-alone unit, and what the rig's bearings took
+         of it; both at the first 2 to 13 of the points 200, 400, 600, 900, 1200, 1600,
+         2000, 2500, 3000, 3500, 4000, 4500 and 5000 rpm, as many as there are
 
 A line of NUMBERS is one of these words with its numbers, set apart by blanks. Each
 word stands once, in any order, but for row. Lines that are empty or begin with # are
@@ -39,7 +47,9 @@ Below the map's first torque a loss follows the line of the first two torques an
 may be negative. The nearest point is the lower one of two that are equally near, and
 the end of the axis for a point outside it. Steps are printed a line each: a, b, g, h
 and U, each with its grains, of which 100 are 0.01 Nm. A refused line of a listing is
-told with its number, counted from 1, the header's.
+told with its number, counted from 1, the header's. A drag is refused where the
+retarder's speed, SPEED times RATIO, is below 200 rpm or above the last point that has a
+reading.
 
 Answers go to standard output, refusals and failures to standard error.
 Status 0: answered. Status 1: the data, the listing, the numbers or the question is
@@ -56,6 +66,7 @@ examples, in the folder examples:
   axle load --list - < standard.csv
   axle write measured.numbers > new.axle
   axle steps 10000 0 0 100 1000 0 0 0 10 340
+  axle drag 1.5 200 10.00,15.00 1,2      prints 11.00
 ";
 
 pub fn text() -> String {

@@ -2,6 +2,7 @@
 
 use crate::failure::Failure;
 use std::ffi::OsStr;
+use std::os::unix::ffi::OsStrExt;
 
 /// A number as it is typed: what it is called, what it is, and the digits after the point.
 pub struct Quantity {
@@ -24,6 +25,25 @@ pub const TORQUE: Quantity = Quantity {
     digits: 2,
 };
 
+/// A retarder's step-up ratio, in thousandths.
+pub const RATIO: Quantity = Quantity {
+    name: "RATIO",
+    form: "number",
+    digits: 3,
+};
+
+/// Torques that were measured of a retarder, in hundredths of Nm.
+pub const READINGS: Quantity = Quantity {
+    name: "READINGS",
+    ..TORQUE
+};
+
+/// The rig's part of them, in hundredths of Nm.
+pub const BEARING_LOSSES: Quantity = Quantity {
+    name: "BEARING_LOSSES",
+    ..TORQUE
+};
+
 /// How many digits are allowed after the point, in words.
 const AT_MOST: [&str; 4] = [
     "",
@@ -41,8 +61,29 @@ enum Fault {
 impl Quantity {
     /// The number that the library takes.
     pub fn number(&self, text: &OsStr) -> Result<u32, Failure> {
+        self.told(text).map_err(Failure::Failed)
+    }
+
+    /// The numbers of a list, joined by commas. An empty text has none.
+    pub fn list(&self, text: &OsStr) -> Result<Vec<u32>, Failure> {
+        if text.is_empty() {
+            return Ok(Vec::new());
+        }
+        let parts: Vec<&[u8]> = text.as_bytes().split(|byte| *byte == b',').collect();
+        let numbers = parts.iter().enumerate().map(|(index, part)| {
+            let number = self.told(OsStr::from_bytes(part));
+            number.map_err(|message| {
+                let place = format!("number {} of {}", index + 1, parts.len());
+                Failure::Failed(format!("{message} ({place})"))
+            })
+        });
+        numbers.collect()
+    }
+
+    /// The number. What is wrong where the text is none, or one that is too large.
+    fn told(&self, text: &OsStr) -> Result<u32, String> {
         let number = self.scaled(text);
-        number.map_err(|fault| Failure::Failed(self.message(text, fault)))
+        number.map_err(|fault| self.message(text, fault))
     }
 
     /// The number, or the largest there is in its place. What is wrong where the text is none.
