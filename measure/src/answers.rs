@@ -78,6 +78,12 @@ pub fn answer(case: &Case, lent: &mut Lent) -> Vec<u8> {
         Case::Write { numbers, room } => write_answer(numbers, *room, &mut lent.bytes).into_bytes(),
         Case::Steps { sensor, torque } => steps_answer(*sensor, *torque).into_bytes(),
         Case::Load { text, entries } => load_answer(text, *entries, lent).into_bytes(),
+        Case::Drag {
+            readings,
+            bearings,
+            ratio,
+            speed,
+        } => drag_answer(readings, bearings, *ratio, *speed).into_bytes(),
         Case::Read(data) | Case::Program(data) => build_answer(data, 2_048, 65_536, &[], lent),
     }
 }
@@ -216,6 +222,13 @@ fn steps_answer(sensor: [u16; 9], torque: u32) -> String {
             let [a, b, g, h, u] = steps.in_order();
             format!("steps {a} {b} {g} {h} {u}\n")
         }
+        Err(refusal) => refused(refusal),
+    }
+}
+
+fn drag_answer(readings: &[u32], bearings: &[u32], ratio: u32, speed: u32) -> String {
+    match axle::retarder_drag(readings, bearings, ratio, speed) {
+        Ok(drag) => format!("drag {drag}\n"),
         Err(refusal) => refused(refusal),
     }
 }
