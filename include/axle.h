@@ -12,8 +12,9 @@
 
    Component data says its kind: 1 standard, 2 measured with one sensor at the
    output, 3 measured with one on each half-shaft, left and right, whose torques
-   together are the output torque. Every call takes all three alike. No accepted
-   data is longer than 24,853 bytes. docs/FORMAT.md has each kind byte by byte.
+   together are the output torque. Every call that takes component data or its map
+   takes all three alike. No accepted data is longer than 24,853 bytes.
+   docs/FORMAT.md has each kind byte by byte.
 
    Answers. `refusal` is 0 where the call is answered, else the number of the refusal
    (below), and `place` its place. Of a build, of a write and of the steps of a
@@ -245,9 +246,9 @@ axle_steps_answer axle_steps(const uint16_t sensor[9], uint32_t torque);
 
 /* The drag of a retarder, from what was measured of it as a stand-alone unit: the
    readings are the measured torques at the first 2 to 13 of the points 200, 400, 600,
-   900, 1,200, 1,600, 2,000, 2,500, 3,000, 3,500, 4,000, 4,500 and 5,000 rpm, as many as
-   there are, and the bearing losses those of the rig at the same points. A point's drag
-   is its reading less its bearing loss.
+   900, 1200, 1600, 2000, 2500, 3000, 3500, 4000, 4500 and 5000 rpm, as many as there
+   are, and the bearing losses those of the rig at the same points. A point's drag is
+   its reading less its bearing loss.
    The speed is that of the drive; times the step-up ratio it is the retarder's, which
    is never rounded. At a point that has a reading the answer is the point's drag.
    Between two points the drag is linear, rounded up once: never below the exact line,

@@ -11,7 +11,7 @@ static const uint32_t points[POINTS] = {2000, 4000, 6000, 9000, 12000, 16000, 20
 
 static const uint32_t rising[2] = {1000, 1500};
 static const uint32_t falling[2] = {1500, 1000};
-static const uint32_t bearings[2] = {100, 200};
+static const uint32_t bearing_losses[2] = {100, 200};
 static const uint32_t none[POINTS + 1];
 static const uint32_t ones[POINTS + 1] = {1, 1, 1, 1, 1, 1, 1, 1, 1, 1, 1, 1, 1, 1};
 
@@ -42,11 +42,11 @@ static void expect_refused(const uint32_t *readings, size_t reading_count, const
 /* Drags of 9.00 Nm at 200 rpm and 13.00 Nm at 400 rpm, and 15.00 and 10.00 Nm. */
 static void two_points(void)
 {
-    expect_drag(rising, bearings, 2, 1500, 2000, 1100);
+    expect_drag(rising, bearing_losses, 2, 1500, 2000, 1100);
     /* At 266.6 rpm: 5166 / 5. */
-    expect_drag(rising, bearings, 2, 1333, 2000, 1034);
-    expect_drag(rising, bearings, 2, RATIO, 2000, 900);
-    expect_drag(rising, bearings, 2, RATIO, 4000, 1300);
+    expect_drag(rising, bearing_losses, 2, 1333, 2000, 1034);
+    expect_drag(rising, bearing_losses, 2, RATIO, 2000, 900);
+    expect_drag(rising, bearing_losses, 2, RATIO, 4000, 1300);
     /* At 300.1 rpm: 4999 / 4. */
     expect_drag(falling, none, 2, RATIO, 3001, 1250);
     expect_drag(falling, none, 2, RATIO, 2000, 1500);
@@ -69,12 +69,12 @@ static void all_points(void)
 
 static void limits(void)
 {
-    expect_drag(rising, bearings, 2, 100, 20000, 900);
-    expect_drag(rising, bearings, 2, 10000, 200, 900);
-    expect_refused(rising, 2, bearings, 2, 99, 30000, 45);
-    expect_refused(rising, 2, bearings, 2, 10001, 300, 45);
-    expect_refused(rising, 2, bearings, 2, 0, 3000, 45);
-    expect_refused(rising, 2, bearings, 2, UINT32_MAX, 3000, 45);
+    expect_drag(rising, bearing_losses, 2, 100, 20000, 900);
+    expect_drag(rising, bearing_losses, 2, 10000, 200, 900);
+    expect_refused(rising, 2, bearing_losses, 2, 99, 30000, 45);
+    expect_refused(rising, 2, bearing_losses, 2, 10001, 300, 45);
+    expect_refused(rising, 2, bearing_losses, 2, 0, 3000, 45);
+    expect_refused(rising, 2, bearing_losses, 2, UINT32_MAX, 3000, 45);
     expect_refused(ones, 1, none, 1, RATIO, 2000, 45);
     expect_refused(ones, POINTS + 1, none, POINTS + 1, RATIO, 2000, 45);
     expect_refused(ones, 2, none, 1, RATIO, 2000, 45);
@@ -84,11 +84,11 @@ static void limits(void)
     expect_refused(ones, 2, none, 0, RATIO, 2000, 45);
     expect_refused(ones, 0, none, 2, RATIO, 2000, 45);
     /* At 199.9998, 199.9999, 400.1 and 5,000.0001 rpm. */
-    expect_refused(rising, 2, bearings, 2, 999, 2002, 47);
-    expect_refused(rising, 2, bearings, 2, 1207, 1657, 47);
-    expect_refused(rising, 2, bearings, 2, RATIO, 4001, 47);
+    expect_refused(rising, 2, bearing_losses, 2, 999, 2002, 47);
+    expect_refused(rising, 2, bearing_losses, 2, 1207, 1657, 47);
+    expect_refused(rising, 2, bearing_losses, 2, RATIO, 4001, 47);
     expect_refused(readings_of_all, POINTS, ones, POINTS, 739, 67659, 47);
-    expect_refused(rising, 2, bearings, 2, RATIO, 0, 47);
+    expect_refused(rising, 2, bearing_losses, 2, RATIO, 0, 47);
 }
 
 static void out_of_range(void)
@@ -115,9 +115,9 @@ static void widest_numbers(void)
     expect_drag(widest, widest_less, 2, 1333, 2000, 6670000);
     expect_drag(widest, widest_less, 2, 667, 5997, 5);
     expect_refused(widest, 2, widest_less_one, 2, RATIO, 4000, 46);
-    expect_refused(rising, 2, bearings, 2, 10000, UINT32_MAX, 47);
+    expect_refused(rising, 2, bearing_losses, 2, 10000, UINT32_MAX, 47);
     /* A product that would be 200.2704 rpm in 32 bits. */
-    expect_refused(rising, 2, bearings, 2, 10000, 429697, 47);
+    expect_refused(rising, 2, bearing_losses, 2, 10000, 429697, 47);
     expect_refused(rising, 2, widest, 2, 10000, UINT32_MAX, 46);
     expect_refused(rising, 2, widest, 2, UINT32_MAX, UINT32_MAX, 45);
 }

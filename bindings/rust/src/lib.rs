@@ -6,10 +6,10 @@
 //! and its torque in hundredths of Nm.
 //!
 //! Component data is of kind 1 (standard), 2 (measured with one sensor at the output) or 3
-//! (measured with one on each half-shaft, left and right). Every call takes all three alike;
-//! `docs/FORMAT.md` has them byte by byte. `Numbers` makes such data, `Map::load` takes in a listing,
-//! `Sensor::steps` answers the steps of one sensor's uncertainty, and `retarder_drag` the drag of a
-//! retarder.
+//! (measured with one on each half-shaft, left and right). Every call that takes component data or
+//! its map takes all three alike; `docs/FORMAT.md` has them byte by byte. `Numbers` makes such data,
+//! `Map::load` takes in a listing, `Sensor::steps` answers the steps of one sensor's uncertainty, and
+//! `retarder_drag` the drag of a retarder.
 //!
 //! ```
 //! let data = [

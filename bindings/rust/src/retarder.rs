@@ -5,10 +5,10 @@ use crate::{answered, c, Refusal};
 /// The drag of a retarder in hundredths of Nm, from what was measured of it as a stand-alone unit.
 ///
 /// The readings are the measured torques in hundredths of Nm at the first 2 to 13 of the points 200,
-/// 400, 600, 900, 1,200, 1,600, 2,000, 2,500, 3,000, 3,500, 4,000, 4,500 and 5,000 rpm, as many as
-/// there are, and the bearing losses those of the rig at the same points. A point's drag is its
-/// reading less its bearing loss. The step-up ratio is in thousandths, 100 to 10,000, and the speed
-/// of the drive in tenths of rpm; their product is the speed of the retarder, which is never rounded.
+/// 400, 600, 900, 1200, 1600, 2000, 2500, 3000, 3500, 4000, 4500 and 5000 rpm, as many as there are,
+/// and the bearing losses those of the rig at the same points. A point's drag is its reading less its
+/// bearing loss. The step-up ratio is in thousandths, 100 to 10,000, and the speed of the drive in
+/// tenths of rpm; their product is the speed of the retarder, which is never rounded.
 ///
 /// Between two points the drag is linear, rounded up once: never below the exact line, less than a
 /// hundredth above it, and between the drags of the two points. Refusals 45, 46 and 47, in this order

@@ -35,7 +35,8 @@ fn points() -> Vec<u32> {
     told.split(", ").map(|text| number(text) as u32).collect()
 }
 
-/// Where the drags of two points differ from a third, each is met at its point alone.
+/// 100,000.00 Nm at one point and nothing at the others is met at that point and not 0.1 rpm beside
+/// it, where only speeds below the first point and above the last are refused.
 #[test]
 fn points_are_those_of_the_page() {
     let points = points();

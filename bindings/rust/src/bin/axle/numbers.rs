@@ -61,7 +61,7 @@ enum Fault {
 impl Quantity {
     /// The number that the library takes.
     pub fn number(&self, text: &OsStr) -> Result<u32, Failure> {
-        self.told(text).map_err(Failure::Failed)
+        self.parsed(text).map_err(Failure::Failed)
     }
 
     /// The numbers of a list, joined by commas. An empty text has none.
@@ -71,7 +71,7 @@ impl Quantity {
         }
         let parts: Vec<&[u8]> = text.as_bytes().split(|byte| *byte == b',').collect();
         let numbers = parts.iter().enumerate().map(|(index, part)| {
-            let number = self.told(OsStr::from_bytes(part));
+            let number = self.parsed(OsStr::from_bytes(part));
             number.map_err(|message| {
                 let place = format!("number {} of {}", index + 1, parts.len());
                 Failure::Failed(format!("{message} ({place})"))
@@ -81,7 +81,7 @@ impl Quantity {
     }
 
     /// The number. What is wrong where the text is none, or one that is too large.
-    fn told(&self, text: &OsStr) -> Result<u32, String> {
+    fn parsed(&self, text: &OsStr) -> Result<u32, String> {
         let number = self.scaled(text);
         number.map_err(|fault| self.message(text, fault))
     }
