@@ -18,7 +18,7 @@ use Rattle.rows.proofs.RowParts.{row_ends}
 use Rattle.loss.specs.Measured.{temperature_on_sensitivity, temperature_on_zero, calibration, parasitic_loads}
 use Rattle.loss.specs.Standard.{line_of}
 use Rattle.loss.proofs.Lines.{line_of_usable}
-use Rattle.loss.proofs.Rounding.{under_zero_is}
+use Rattle.loss.proofs.OneDenominator.{under_zero_is}
 use Rattle.loss.proofs.Values.{standard_numerator, standard_loss_is}
 use Rattle.map.specs.Build.{points, point_index, data_bench}
 use Rattle.std.specs.Prelude.{Ok}

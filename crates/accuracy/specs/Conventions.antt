@@ -2,7 +2,7 @@
 use Rattle.std.specs.Prelude.{ℕ, ◌+◌, ◌≤◌, ◌<◌, ◌≡◌, false, List, [], ◌∷◌, map, length, get_or}
 use Rattle.component.specs.Component.{Component, Rows, Kind, standard, measured, sensor_count, kind_number, row_length}
 use Rattle.sensor.specs.declared.Sensor.{Sensor}
-use Rattle.loss.specs.Rounding.{under_zero}
+use Rattle.loss.specs.PartAbove.{under_zero}
 use Rattle.loss.specs.Standard.{line_of, standard_loss}
 use Rattle.loss.specs.Measured.{loss_is_under_zero, temperature_on_sensitivity, temperature_on_zero, calibration, parasitic_loads, SensorReading, output, readings}
 use Rattle.map.specs.Build.{points, point_index, point_start, point_row}

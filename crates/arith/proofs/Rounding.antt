@@ -19,9 +19,6 @@ round_up_is {x} {p} {m} {d} i =
       near = lt_of_mul-lt-mul_right d (omega (arith, scaled, mul-lt-mul_of_pos_right u.near x.above));
     }))
   where
-    q : ℕ
-    q = quotient_up (p - m) d
-
     u : QuotientUp (p - m) d (quotient_up (p - m) d)
     u = quotient_up_law (p - m) d i.pos
 

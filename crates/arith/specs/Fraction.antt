@@ -81,7 +81,7 @@ Same x y = (x ≼ y) × (y ≼ x)
 unfoldable pub larger : Fraction → Fraction → Fraction
 larger x y = cond (leb (cleared x y) (cleared y x)) y x
 
--- x rounded up to a whole number; one under zero has 0
+-- x rounded up to a whole number, of which `RoundsUp` is the law where x is not under zero; under zero it is 0
 unfoldable pub round_up : Fraction → ℕ
 round_up x = quotient_up (x.plus - x.minus) x.den
 

@@ -20,7 +20,7 @@ pub struct GridPoint {
     pub torque: u16,
 }
 
-// The numbers of an axis, two or more, and how many units of a query each of them counts.
+// The numbers of an axis, two or more, and how many units each of them counts.
 #[derive(Clone, Copy)]
 pub struct ScaledAxis<'a> {
     pub numbers: &'a [u16],

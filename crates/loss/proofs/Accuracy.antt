@@ -12,12 +12,12 @@ use Rattle.arith.specs.Quotient.{quotient_up}
 use Rattle.arith.specs.Fraction.{Fraction, ◌less◌over◌, ◌over◌, whole, ◌⊕◌, ◌≼◌, ◌≺◌, round_up}
 use Rattle.arith.proofs.Fractions.{Is, is_itself, is_less, is_whole, is_over, is_expanded, is_sum, is_plus_whole, at_most, below, below_of, at_most_itself, not_both}
 use Rattle.arith.proofs.Rounding.{round_up_natural}
-use Rattle.loss.specs.Rounding.{part_above}
+use Rattle.loss.specs.PartAbove.{part_above}
 use Rattle.loss.specs.Standard.{line_of, standard_loss, standard_entry}
 use Rattle.loss.specs.Measured.{SensorReading, reading_uncertainty, loss_uncertainty, measured_loss, loss_is_under_zero, allowance, from_grains, entry_of, Output, Row, output, output_reading, readings, row_uncertainty, measured_entry, AllInRange, RowInRange}
 use Rattle.loss.specs.Exact.{Cut, IsNumber, Near, EntryAccurate, Exact, cut, exact_standard, root_square, exact_measured}
 use Rattle.loss.proofs.Lines.{line_of_usable}
-use Rattle.loss.proofs.Rounding.{not_negative, not_negative_of, is_part_above, is_zero}
+use Rattle.loss.proofs.OneDenominator.{not_negative, not_negative_of, is_part_above, is_zero}
 use Rattle.loss.proofs.Values.{standard_numerator, standard_loss_is, loss_is, under_zero_by, allowance_is}
 use Rattle.loss.proofs.Readings.{rules_divisible, AllDivisible, allowed, root_enough, root_near}
 use Rattle.loss.proofs.Cuts.{square_not_negative, exact_is_number, entry_accurate}

@@ -10,10 +10,10 @@ use Rattle.arith.specs.Fraction.{Fraction, whole, ◌⊕◌, ◌⊖◌, ◌⊗�
 use Rattle.arith.proofs.Squares.{square_below}
 use Rattle.arith.proofs.Fractions.{Is, is_itself, is_whole, is_also, is_expanded, is_subtracted, is_sum, is_difference, is_product, is_natural_product, is_plus_whole, at_most, at_most_of, at_most_of_not_below, at_most_total, at_most_trans}
 use Rattle.arith.proofs.Rounding.{round_up_law}
-use Rattle.loss.specs.Rounding.{part_above}
+use Rattle.loss.specs.PartAbove.{part_above}
 use Rattle.loss.specs.Exact.{IsNumber, EntryAccurate, Exact, cut}
 use Rattle.loss.proofs.Roots.{twice_product}
-use Rattle.loss.proofs.Rounding.{at_most_over, at_most_over_of, below_over, below_over_of, is_zero, not_negative, not_negative_of, larger_left, larger_right}
+use Rattle.loss.proofs.OneDenominator.{at_most_over, at_most_over_of, below_over, below_over_of, is_zero, not_negative, not_negative_of, larger_left, larger_right}
 
 -- ---- values over a common denominator
 

@@ -1,5 +1,5 @@
 -- The crate's own laws.
-pub mod Rounding
+pub mod OneDenominator
 pub mod Values
 pub mod Lines
 pub mod Parts

@@ -15,7 +15,7 @@ use Rattle.sensor.specs.declared.Sensor.{Sensor}
 use Rattle.loss.specs.Measured.{grains_up, temperature_on_sensitivity, temperature_on_zero, calibration, parasitic_loads, four_squares, LeastUncertainty, uncertainty_law, sensor_steps, SensorReading, scaled_uncertainty, reading_uncertainty, sum_of_squares, loss_uncertainty, from_grains}
 use Rattle.loss.specs.Exact.{unrounded, sensor_square, root_square}
 use Rattle.loss.proofs.Roots.{sensor_enough, sensor_near, Term, used_squares, exact_squares, slacks, TermsWithin, root_within}
-use Rattle.loss.proofs.Rounding.{not_negative_of}
+use Rattle.loss.proofs.OneDenominator.{not_negative_of}
 
 -- ---- one sensor, its exact parts over one denominator
 

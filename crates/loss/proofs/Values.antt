@@ -14,8 +14,8 @@ use Rattle.loss.specs.Standard.{line_of, standard_loss, standard_entry}
 use Rattle.std.proofs.Common.{Option, Some, None}
 use Rattle.std.specs.Option.{SomeIff}
 use Rattle.loss.specs.Measured.{measured_loss, loss_is_under_zero, allowance, from_grains, entry_of, LossSays}
-use Rattle.loss.specs.Rounding.{part_above}
-use Rattle.loss.proofs.Rounding.{is_same, is_part_above, larger_right, under_zero_is}
+use Rattle.loss.specs.PartAbove.{part_above}
+use Rattle.loss.proofs.OneDenominator.{is_same, is_part_above, larger_right, under_zero_is}
 
 -- ---- the standard loss
 

@@ -1,5 +1,5 @@
 -- What the contracts and laws of this crate cite.
-pub mod Rounding
+pub mod PartAbove
 pub mod Standard
 pub mod Measured
 pub mod SensorSteps

@@ -9,7 +9,7 @@ use Rattle.sensor.specs.Sensor.{SensorRules}
 use Rattle.sensor.specs.declared.Sensor.{Sensor}
 use Rattle.loss.specs.declared.FixedParts.{FixedParts}
 use Rattle.loss.specs.declared.Steps.{Steps}
-use Rattle.loss.specs.Rounding.{part_above, under_zero}
+use Rattle.loss.specs.PartAbove.{part_above, under_zero}
 
 -- ---- one sensor: its parts a, b, g and h and its uncertainty U, in grains; C is its torque in hundredths of Nm
 

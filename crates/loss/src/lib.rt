@@ -321,7 +321,7 @@ impl Measurement {
 
     // The entry, from the loss uncertainty in grains: what that has above the allowance is added to the measured loss, and
     // the sum rounded up to a hundredth.
-    #[tactic(auto, using(crate::proofs::Rounding::same_is, crate::proofs::Values::entry_is))]
+    #[tactic(auto, using(crate::proofs::OneDenominator::same_is, crate::proofs::Values::entry_is))]
     pub fn entry(self, uncertainty: u32) -> u64
         ensures { result ≡ entry_of self.ratio self.input self.output uncertainty }
     {

@@ -8,7 +8,7 @@ use Rattle.arith.proofs.Fractions.{Is, is_whole, is_plus_whole, at_most, below}
 use Rattle.arith.proofs.Rounding.{round_up_natural, round_up_same}
 use Rattle.lookup.specs.Loss.{neighbour}
 use Rattle.retarder.specs.SpeedPoints.{speed_points, speed_point}
-use Rattle.retarder.specs.Drag.{drag_at, exact_drag, drag}
+use Rattle.retarder.specs.Drag.{point_drag, exact_drag, drag_at}
 use Rattle.retarder.specs.Laws.{WithinLimits, SpeedWithin, OnSegment, NearLine, DragAccurate}
 use Rattle.retarder.proofs.Segments.{on_neighbour, width, numerator, is_exact, is_point, same_line}
 
@@ -24,20 +24,20 @@ between a b d e q D s h u =
     )
 
 module _ (readings bearing_losses : List ℕ) (most : length readings ≤ 13) (v i : ℕ) (s : OnSegment readings v i) where
-  exact : Is (exact_drag readings bearing_losses v i) (numerator readings bearing_losses most v i) 0 (width readings bearing_losses most v i)
+  exact : Is (exact_drag readings bearing_losses v i) (numerator readings bearing_losses most v i) 0 (width i)
   exact = is_exact readings bearing_losses most v i s
 
   -- as the code reckons it
-  pub rounded : round_up (exact_drag readings bearing_losses v i) ≡ quotient_up (numerator readings bearing_losses most v i) (width readings bearing_losses most v i)
+  pub rounded : round_up (exact_drag readings bearing_losses v i) ≡ quotient_up (numerator readings bearing_losses most v i) (width i)
   rounded = round_up_natural exact
 
-  law : QuotientUp (numerator readings bearing_losses most v i) (width readings bearing_losses most v i) (round_up (exact_drag readings bearing_losses v i))
+  law : QuotientUp (numerator readings bearing_losses most v i) (width i) (round_up (exact_drag readings bearing_losses v i))
   law = rw rounded (quotient_up_law _ _ exact.pos)
 
   pub near_line : NearLine readings bearing_losses v i (round_up (exact_drag readings bearing_losses v i))
   near_line =
       let q = round_up (exact_drag readings bearing_losses v i) in
-      let b = between _ _ (drag_at readings bearing_losses i) (drag_at readings bearing_losses (i + 1)) q _ (omega (arith, s.from, s.upto)) exact.pos law in
+      let b = between _ _ (point_drag readings bearing_losses i) (point_drag readings bearing_losses (i + 1)) q _ (omega (arith, s.from, s.upto)) exact.pos law in
       record {
         never_below = at_most exact (is_whole q) (omega (arith, law.not_below));
         near = below (is_whole q) (is_plus_whole 1 exact) (omega (arith, law.near));
@@ -46,15 +46,15 @@ module _ (readings bearing_losses : List ℕ) (most : length readings ≤ 13) (v
       }
 
   -- at a speed point
-  pub rounded_point : (k : ℕ) → k < length readings → v ≡ speed_point k → round_up (exact_drag readings bearing_losses v i) ≡ drag_at readings bearing_losses k
+  pub rounded_point : (k : ℕ) → k < length readings → v ≡ speed_point k → round_up (exact_drag readings bearing_losses v i) ≡ point_drag readings bearing_losses k
   rounded_point k l e =
-      let d = drag_at readings bearing_losses k in
+      let d = point_drag readings bearing_losses k in
       let one : d ≡ quotient_up d 1 = is_quotient_up (omega arith) (record { not_below = omega arith; near = omega arith }) in
       round_up_natural (is_point readings bearing_losses most v i k s l e) ∙ sym one
 
 -- the drag at a retarder speed within the speed points that have a reading
-pub accurate : (readings bearing_losses : List ℕ) (ratio v : ℕ) → WithinLimits readings bearing_losses ratio → SpeedWithin readings v → DragAccurate readings bearing_losses v (drag readings bearing_losses v)
-unfolding drag
+pub accurate : (readings bearing_losses : List ℕ) (ratio v : ℕ) → WithinLimits readings bearing_losses ratio → SpeedWithin readings v → DragAccurate readings bearing_losses v (drag_at readings bearing_losses v)
+unfolding drag_at
 accurate readings bearing_losses ratio v limits w =
     let j = neighbour (take (length readings) speed_points) 10000 v in
     let s = on_neighbour readings limits.count_from limits.count_upto v w in

@@ -6,7 +6,7 @@ use Rattle.std.proofs.lemmas.Bool.{both_ways, false_from_ne_true}
 use Rattle.refusal.specs.Outcome.{Told, accepted, refused, ◌>>=◌, require}
 use Rattle.refusal.proofs.Steps.{never, same_value, test_accepted, test_refused}
 use Rattle.grid.proofs.Every.{and_fst, and_snd, every_at, every_of}
-use Rattle.retarder.specs.Drag.{retarder_speed, drag_fits, within_limits, drags_fit, speed_within, drag, drag_answer}
+use Rattle.retarder.specs.Drag.{retarder_speed, drag_fits, within_limits, drags_fit, speed_within, drag_at, drag_answer}
 use Rattle.retarder.specs.Laws.{WithinLimits, DragsFit, SpeedWithin, DragFault, out_of_limits, drag_out_of_range, speed_outside, DragDecided, DragLaws}
 use Rattle.retarder.proofs.Accurate.{accurate}
 
@@ -75,18 +75,18 @@ module _ (readings bearing_losses : List ℕ) (ratio speed : ℕ) where
       (test_refused (drags_fit readings bearing_losses) 46 0 _ told a.1))
       (test_refused (within_limits readings bearing_losses ratio) 45 0 _ told e)
 
-  answered : WithinLimits readings bearing_losses ratio → DragsFit readings bearing_losses → SpeedWithin readings v → drag_answer readings bearing_losses ratio speed ≡ accepted (drag readings bearing_losses v)
+  answered : WithinLimits readings bearing_losses ratio → DragsFit readings bearing_losses → SpeedWithin readings v → drag_answer readings bearing_losses ratio speed ≡ accepted (drag_at readings bearing_losses v)
   unfolding drag_answer
   answered l f w = rw (limits_test readings bearing_losses ratio l, fits_test readings bearing_losses f, within_test readings v w)
 
   answered_only : (answer : ℕ) → drag_answer readings bearing_losses ratio speed ≡ accepted answer
-      → WithinLimits readings bearing_losses ratio × DragsFit readings bearing_losses × SpeedWithin readings v × (answer ≡ drag readings bearing_losses v)
+      → WithinLimits readings bearing_losses ratio × DragsFit readings bearing_losses × SpeedWithin readings v × (answer ≡ drag_at readings bearing_losses v)
   unfolding drag_answer
   answered_only answer e =
-      let rest = require (speed_within readings v) 47 0 >>= λ _. accepted (drag readings bearing_losses v) in
+      let rest = require (speed_within readings v) 47 0 >>= λ _. accepted (drag_at readings bearing_losses v) in
       let a = test_accepted (within_limits readings bearing_losses ratio) 45 0 (require (drags_fit readings bearing_losses) 46 0 >>= λ _. rest) answer e in
       let b = test_accepted (drags_fit readings bearing_losses) 46 0 rest answer a.1 in
-      let c = test_accepted (speed_within readings v) 47 0 (accepted (drag readings bearing_losses v)) answer b.1 in
+      let c = test_accepted (speed_within readings v) 47 0 (accepted (drag_at readings bearing_losses v)) answer b.1 in
       (limits readings bearing_losses ratio a.0, fits readings bearing_losses b.0, within readings v c.0, sym (same_value _ _ c.1))
 
   decided : DragDecided readings bearing_losses ratio speed

@@ -11,7 +11,7 @@ use Rattle.lookup.specs.Loss.{neighbour}
 use Rattle.lookup.proofs.Axes.{Rising, rise_lt, neighbour_in, neighbour_low, neighbour_high}
 use Rattle.lookup.proofs.Lines.{any_two, neighbours, same_is}
 use Rattle.retarder.specs.SpeedPoints.{speed_points, speed_points_rise, speed_point}
-use Rattle.retarder.specs.Drag.{drag_at, exact_drag}
+use Rattle.retarder.specs.Drag.{point_drag, exact_drag}
 use Rattle.retarder.specs.Laws.{SpeedWithin, OnSegment}
 
 -- each speed point is below the next
@@ -63,14 +63,15 @@ on_line x y v d e h a b =
     let j = is_natural_product (is_subtracted a (is_less v x (y - x) D)) (is_whole e) in
     is_sum (is_also ((y - v) * d) 0 (y - x) D (omega arith) i) (is_also ((v - x) * e) 0 (y - x) D (omega arith) j)
 
+-- how long a segment is
+abbrev pub width : ℕ → ℕ
+width i = speed_point (i + 1) - speed_point i
+
 module _ (readings bearing_losses : List ℕ) (most : length readings ≤ 13) (v : ℕ) where
   abbrev d : ℕ → ℕ
-  d = drag_at readings bearing_losses
+  d = point_drag readings bearing_losses
 
-  -- how long a segment is, and what the exact drag is a fraction of
-  abbrev pub width : ℕ → ℕ
-  width i = speed_point (i + 1) - speed_point i
-
+  -- what the exact drag is over that
   abbrev pub numerator : ℕ → ℕ
   numerator i = (speed_point (i + 1) - v) * d i + (v - speed_point i) * d (i + 1)
 

@@ -3,7 +3,7 @@ use Rattle.std.specs.Prelude.{ℕ, ◌+◌, ◌-◌, ◌≤◌, ◌<◌, ◌≡�
 use Rattle.arith.specs.Fraction.{whole, ◌⊕◌, ◌≼◌, ◌≺◌, Same}
 use Rattle.refusal.specs.Outcome.{Told, refusal, accepted, refused}
 use Rattle.retarder.specs.SpeedPoints.{speed_point}
-use Rattle.retarder.specs.Drag.{retarder_speed, drag_at, exact_drag, drag, drag_answer}
+use Rattle.retarder.specs.Drag.{retarder_speed, point_drag, exact_drag, drag_at, drag_answer}
 
 -- the rules of 47, of the retarder speed v
 pub record SpeedWithin (readings : List ℕ) (v : ℕ) : Type 0 where
@@ -27,21 +27,21 @@ module _ (readings bearing_losses : List ℕ) where
 
   -- those of 46, at every reading
   abbrev pub DragsFit : Type 0
-  DragsFit = (i : ℕ) → i < length readings → (get_or bearing_losses i 0 ≤ get_or readings i 0) × (drag_at readings bearing_losses i ≤ 10000000)
+  DragsFit = (i : ℕ) → i < length readings → (get_or bearing_losses i 0 ≤ get_or readings i 0) × (point_drag readings bearing_losses i ≤ 10000000)
 
-  -- "never below the exact line and less than 0.01 Nm above", and between the drags at the two ends of the segment
+  -- "never below the exact line" and "less than 0.01 Nm above", and between the drags at the two ends of the segment
   pub record NearLine (v i answer : ℕ) : Type 0 where
     pub never_below : exact_drag readings bearing_losses v i ≼ whole answer
     pub near : whole answer ≺ exact_drag readings bearing_losses v i ⊕ whole 1
-    pub least : min (drag_at readings bearing_losses i) (drag_at readings bearing_losses (i + 1)) ≤ answer
-    pub most : answer ≤ max (drag_at readings bearing_losses i) (drag_at readings bearing_losses (i + 1))
+    pub least : min (point_drag readings bearing_losses i) (point_drag readings bearing_losses (i + 1)) ≤ answer
+    pub most : answer ≤ max (point_drag readings bearing_losses i) (point_drag readings bearing_losses (i + 1))
 
-  -- what an answer at the retarder speed v is: there is a segment that has v, on a speed point two, which then have one exact drag; the answer is near the line of each; and at a speed point it is the drag there
+  -- an answer at the retarder speed v: some segment has v; of each that has it the answer is near the line; where two have it, they have one exact drag; and at a speed point that has a reading it is the drag there
   pub record DragAccurate (v answer : ℕ) : Type 0 where
     pub on_one : (i : ℕ) × OnSegment readings v i
     pub near_each : (i : ℕ) → OnSegment readings v i → NearLine v i answer
     pub same_line : (i j : ℕ) → OnSegment readings v i → OnSegment readings v j → Same (exact_drag readings bearing_losses v i) (exact_drag readings bearing_losses v j)
-    pub on_point : (i : ℕ) → i < length readings → v ≡ speed_point i → answer ≡ drag_at readings bearing_losses i
+    pub on_point : (i : ℕ) → i < length readings → v ≡ speed_point i → answer ≡ point_drag readings bearing_losses i
 
   module _ (ratio speed : ℕ) where
     -- why a call is refused: the condition of its number, those tested before not holding
@@ -53,9 +53,9 @@ module _ (readings bearing_losses : List ℕ) where
     -- a drag is answered exactly where no refusal applies, and is the one of the definition; a refusal is told exactly for its reason
     pub record DragDecided : Type 0 where
       pub answered : WithinLimits ratio → DragsFit → SpeedWithin readings (retarder_speed ratio speed)
-          → drag_answer readings bearing_losses ratio speed ≡ accepted (drag readings bearing_losses (retarder_speed ratio speed))
+          → drag_answer readings bearing_losses ratio speed ≡ accepted (drag_at readings bearing_losses (retarder_speed ratio speed))
       pub answered_only : (answer : ℕ) → drag_answer readings bearing_losses ratio speed ≡ accepted answer
-          → WithinLimits ratio × DragsFit × SpeedWithin readings (retarder_speed ratio speed) × (answer ≡ drag readings bearing_losses (retarder_speed ratio speed))
+          → WithinLimits ratio × DragsFit × SpeedWithin readings (retarder_speed ratio speed) × (answer ≡ drag_at readings bearing_losses (retarder_speed ratio speed))
       pub refused_for : (told : Told) → DragFault told → drag_answer readings bearing_losses ratio speed ≡ refused told
       pub refused_only : (told : Told) → drag_answer readings bearing_losses ratio speed ≡ refused told → DragFault told
 

@@ -25,6 +25,10 @@ pub speed_points_rise : every (λ i. ltb (get_or speed_points i 0) (get_or speed
 unfolding every
 speed_points_rise = refl
 
--- speed point i, from 0, in the unit of a retarder speed: ten-thousandths of rpm
-abbrev pub speed_point : ℕ → ℕ
-speed_point i = 10000 * get_or speed_points i 0
+-- a retarder speed is in ten-thousandths of rpm
+abbrev pub units_per_rpm : ℕ
+units_per_rpm = 10000
+
+-- speed point i, from 0, as a retarder speed
+abbrev pub speed_point : (i : ℕ) → ℕ
+speed_point i = units_per_rpm * get_or speed_points i 0

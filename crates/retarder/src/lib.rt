@@ -5,7 +5,7 @@ ghost use Rattle.std.specs.Prelude.{◌≡◌, ◌*◌, ◌-◌, ◌≤◌, ◌<
 ghost use Rattle.arith.specs.Fraction.{round_up};
 ghost use Rattle.refusal.specs.Table.{outcome_of};
 ghost use Rattle.retarder.specs.SpeedPoints.{speed_point};
-ghost use Rattle.retarder.specs.Drag.{drag_at, within_limits, drag_fits, drags_fit, speed_within, exact_drag, retarder_speed, drag_answer};
+ghost use Rattle.retarder.specs.Drag.{point_drag, within_limits, drag_fits, drags_fit, speed_within, exact_drag, retarder_speed, drag_answer};
 ghost use Rattle.retarder.specs.Laws.{OnSegment, DragsFit, DragAccurate};
 
 use lookup::ScaledAxis;
@@ -17,7 +17,15 @@ const SPEED_POINTS: [u16; 13] = [
 ];
 
 // A retarder speed is in ten-thousandths of rpm.
-const UNITS_OF_RPM: u64 = 10_000;
+const UNITS_PER_RPM: u64 = 10_000;
+
+// The limits of a step-up ratio, in thousandths.
+const LOWEST_RATIO: u32 = 100;
+
+const HIGHEST_RATIO: u32 = 10_000;
+
+// A line takes two points.
+const FEWEST_READINGS: usize = 2;
 
 // The largest drag, in hundredths of Nm.
 const LARGEST_DRAG: u32 = 10_000_000;
@@ -34,19 +42,20 @@ fn speed_point(i: usize) -> u64
     requires { i < 13 }
     ensures { result ≡ speed_point i }
 {
-    UNITS_OF_RPM * u64::from(SPEED_POINTS[i])
+    UNITS_PER_RPM * u64::from(SPEED_POINTS[i])
 }
 
-// Whether ratio and count are within their limits, and there are as many bearing losses as readings.
+// Whether the ratio and the count of readings are within their limits, and there are as many bearing losses.
 fn within_limits(readings: &[u32], bearing_losses: &[u32], ratio: u32) -> bool
     ensures { result ≡ within_limits readings.now bearing_losses.now ratio }
 {
     let count = readings.len();
-    (100 <= ratio && ratio <= 10_000)
-        && ((2 <= count && count <= 13) && bearing_losses.len() == count)
+    (LOWEST_RATIO <= ratio && ratio <= HIGHEST_RATIO)
+        && ((FEWEST_READINGS <= count && count <= SPEED_POINTS.len())
+            && bearing_losses.len() == count)
 }
 
-// Whether a reading has a drag, its bearing loss taken off, and none above the largest.
+// Whether a reading is not below its bearing loss, and its drag not above the largest.
 fn drag_fits(reading: u32, bearing_loss: u32) -> bool
     ensures { result ≡ drag_fits reading bearing_loss }
 {
@@ -55,7 +64,7 @@ fn drag_fits(reading: u32, bearing_loss: u32) -> bool
         .is_some_and(|drag| drag <= LARGEST_DRAG)
 }
 
-// Whether each reading has such a drag.
+// The same of every reading.
 fn drags_fit(readings: &[u32], bearing_losses: &[u32]) -> bool
     requires { length bearing_losses.now ≡ length readings.now }
     ensures { result ≡ drags_fit readings.now bearing_losses.now }
@@ -77,11 +86,11 @@ fn speed_within(readings: &[u32], v: u64) -> bool
 }
 
 // The drag at a speed point.
-fn drag_at(readings: &[u32], bearing_losses: &[u32], i: usize) -> u64
+fn point_drag(readings: &[u32], bearing_losses: &[u32], i: usize) -> u64
     requires drags { DragsFit readings.now bearing_losses.now }
     requires reading { i < length readings.now }
     requires bearing_loss { i < length bearing_losses.now }
-    ensures drag { result ≡ drag_at readings.now bearing_losses.now i }
+    ensures drag { result ≡ point_drag readings.now bearing_losses.now i }
     ensures bound { result ≤ 10000000 }
 {
     u64::from(readings[i] - bearing_losses[i])
@@ -106,8 +115,8 @@ fn drag_on(readings: &[u32], bearing_losses: &[u32], v: u64, i: usize) -> u32
 {
     let x = speed_point(i);
     let y = speed_point(i + 1);
-    let lower = weighted(y - v, drag_at(readings, bearing_losses, i));
-    let upper = weighted(v - x, drag_at(readings, bearing_losses, i + 1));
+    let lower = weighted(y - v, point_drag(readings, bearing_losses, i));
+    let upper = weighted(v - x, point_drag(readings, bearing_losses, i + 1));
     // fits: it is at most the larger of the two drags
     arith::quotient_up(lower + upper, y - x) as u32
 }
@@ -136,7 +145,7 @@ pub fn drag(
     }
     let points = ScaledAxis {
         numbers: &SPEED_POINTS[..readings.len()],
-        scale: UNITS_OF_RPM,
+        scale: UNITS_PER_RPM,
     };
     Ok(drag_on(readings, bearing_losses, v, points.neighbour(v)))
 }

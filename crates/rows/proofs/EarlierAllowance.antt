@@ -11,7 +11,7 @@ use Rattle.arith.specs.Fraction.{Fraction, ◌over◌, whole, ◌⊕◌, ◌⊗�
 use Rattle.arith.proofs.Fractions.{is_whole, is_also}
 use Rattle.sensor.specs.Sensor.{SensorRules}
 use Rattle.sensor.specs.declared.Sensor.{Sensor}
-use Rattle.loss.specs.Rounding.{part_above}
+use Rattle.loss.specs.PartAbove.{part_above}
 use Rattle.loss.specs.Measured.{reading_uncertainty, sensor_steps, measured_loss, allowance, from_grains, entry_of, Output, Row, output, output_reading, readings, row_uncertainty, measured_entry, AllInRange, RowInRange}
 use Rattle.loss.proofs.Parts.{steps_at_most, scaled_at_most, scaled_by_one}
 use Rattle.loss.proofs.Rows.{OutputsSmall, root_fits}

@@ -24,7 +24,7 @@ use Rattle.fields.specs.Sensor.{sensor}
 use Rattle.sensor.specs.Sensor.{sensor_number_check, sensor_check}
 use Rattle.component.specs.Component.{component, output_tags, rows_tag, axle_fields, axes_fields, sensor_fields, kind_fields, measured_fields}
 use Rattle.layout.specs.Rules.{AreBytes}
-use Rattle.loss.specs.Rounding.{part_above, under_zero}
+use Rattle.loss.specs.PartAbove.{part_above, under_zero}
 use Rattle.loss.specs.Measured.{grains_up, temperature_on_sensitivity, temperature_on_zero, calibration, parasitic_loads, sensor_uncertainty, sensor_steps, scaled_uncertainty, reading_uncertainty, loss_uncertainty, measured_loss, loss_is_under_zero, allowance, entry_of, readings, row_uncertainty, measured_entry}
 use Rattle.rows.specs.Rows.{torque_at, outputs_at, row_at, near_axis, outputs_check, row_check}
 use Rattle.map.specs.Build.{entry_of_kind, entry, check_of_kind, check, speed_check, rows_check, speed_entries, entries, map_of, build}

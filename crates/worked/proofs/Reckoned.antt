@@ -11,7 +11,7 @@ use Rattle.grid.specs.Map.{valid_speeds, valid_torques, valid_grid, valid_entrie
 use Rattle.fields.specs.Bytes.{pairs}
 use Rattle.fields.specs.Field.{head, field, number, axis}
 use Rattle.component.specs.Component.{component, axle_fields, axes_fields, kind_fields, measured_fields}
-use Rattle.loss.specs.Rounding.{part_above, under_zero}
+use Rattle.loss.specs.PartAbove.{part_above, under_zero}
 use Rattle.loss.specs.Standard.{standard_loss, standard_entry}
 use Rattle.loss.specs.Measured.{grains_up, temperature_on_sensitivity, temperature_on_zero, calibration, parasitic_loads, sensor_uncertainty, sensor_steps, scaled_uncertainty, reading_uncertainty, loss_uncertainty, measured_loss, loss_is_under_zero, allowance, entry_of, readings, row_uncertainty, measured_entry}
 use Rattle.rows.specs.Rows.{near_axis, outputs_check, row_check}

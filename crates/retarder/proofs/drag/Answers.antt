@@ -1,6 +1,6 @@
 -- `retarder::drag` meets its contract. Assumes nothing.
 use Rattle.std.proofs.Common.{sym, ◌∙◌, refl}
-use Rattle.retarder.specs.Drag.{drag, drag_answer}
+use Rattle.retarder.specs.Drag.{drag_at, drag_answer}
 use Rattle.retarder.proofs.Segments.{on_neighbour}
 use Rattle.retarder.proofs.Decided.{limits, fits, within, drag_laws}
 use Rattle.retarder.proofs.drag.Goals as goal
@@ -27,7 +27,7 @@ drag_on-requires-clause-segment c =
     rw c.neighbour.ensures (on_neighbour c.args.readings.now l.count_from l.count_upto _ (within _ _ (sym c.speed_within.ensures ∙ c.if-not-speed_within.false)))
 
 pub returns-clause-answer : goal.returns-clause-answer
-unfolding drag_answer drag
+unfolding drag_answer drag_at
 returns-clause-answer c =
     rw (sym c.within_limits.ensures ∙ c.if-not-within_limits.false, sym c.drags_fit.ensures ∙ c.if-not-drags_fit.false, ← c.retarder_speed-v.ensures, sym c.speed_within.ensures ∙ c.if-not-speed_within.false, c.drag_on.ensures, c.neighbour.ensures) refl
 

@@ -5,7 +5,7 @@ use Rattle.retarder.proofs.drag_on.Goals as goal
 
 pub returns : goal.returns
 returns c =
-    rw (rounded c.args.readings.now c.args.bearing_losses.now c.requires.counts.0 c.args.v c.args.i c.requires.segment, c.quotient_up.ensures, c.weighted-lower.ensures.value, c.weighted-upper.ensures.value, c.drag_at.ensures.drag, c.drag_at-2.ensures.drag, c.speed_point-x.ensures, c.speed_point-y.ensures) refl
+    rw (rounded c.args.readings.now c.args.bearing_losses.now c.requires.counts.0 c.args.v c.args.i c.requires.segment, c.quotient_up.ensures, c.weighted-lower.ensures.value, c.weighted-upper.ensures.value, c.point_drag.ensures.drag, c.point_drag-2.ensures.drag, c.speed_point-x.ensures, c.speed_point-y.ensures) refl
 
 pub overflow_cast-result : goal.overflow_cast-result
 overflow_cast-result c =

@@ -1,5 +1,5 @@
 -- `loss::Measurement::allowance` meets its contract. Assumes nothing.
-use Rattle.loss.proofs.Rounding.{is_same}
+use Rattle.loss.proofs.OneDenominator.{is_same}
 use Rattle.loss.proofs.Values.{allowance_is}
 use Rattle.loss.proofs.Measurement.allowance.Goals as goal
 

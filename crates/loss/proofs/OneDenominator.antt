@@ -9,7 +9,7 @@ use borrow.Author.Tests.{leb-true, leb-false, ltb-true, ltb-false}
 use lib.Dec.{leb, ltb}
 use Rattle.arith.specs.Fraction.{Fraction, ◌over◌, whole, ◌⊖◌, cleared, ◌≼◌, ◌≺◌, larger, Same}
 use Rattle.arith.proofs.Fractions.{Is, is_itself, is_whole, is_over, is_also, is_subtracted, is_difference, at_most, at_most_of, below, below_of}
-use Rattle.loss.specs.Rounding.{part_above, under_zero}
+use Rattle.loss.specs.PartAbove.{part_above, under_zero}
 
 -- ---- the order of values over one denominator
 
