@@ -7,6 +7,7 @@ use crate::lookup::{Axis, LentMap};
 use crate::map;
 use crate::questions::{questions, Question};
 use crate::random::Source;
+use crate::retarder::RetarderNumbers;
 use crate::writer::HandedNumbers;
 use crate::{faults, valid};
 
@@ -38,13 +39,8 @@ pub enum Case {
     Steps { sensor: [u16; 9], torque: u32 },
     /// A listing loaded into so many lent entries.
     Load { text: Vec<u8>, entries: usize },
-    /// The drag of a retarder, asked for its readings and bearing losses in hundredths of Nm, its ratio in thousandths and the drive speed in tenths of rpm.
-    Drag {
-        readings: Vec<u32>,
-        bearings: Vec<u32>,
-        ratio: u32,
-        speed: u32,
-    },
+    /// The drag of a retarder, asked for its numbers.
+    Drag(RetarderNumbers),
 }
 
 impl Case {
@@ -57,7 +53,7 @@ impl Case {
             Case::Write { .. } => 'w',
             Case::Steps { .. } => 's',
             Case::Load { .. } => 'l',
-            Case::Drag { .. } => 'd',
+            Case::Drag(_) => 'd',
         }
     }
 
@@ -89,12 +85,7 @@ impl Case {
             Case::Write { numbers, room } => (0, *room, handed_bytes(numbers), &[]),
             Case::Steps { sensor, torque } => (0, 0, steps_bytes(sensor, *torque), &[]),
             Case::Load { text, entries } => (*entries, 0, text.clone(), &[]),
-            Case::Drag {
-                readings,
-                bearings,
-                ratio,
-                speed,
-            } => (0, 0, drag_bytes(readings, bearings, *ratio, *speed), &[]),
+            Case::Drag(numbers) => (0, 0, drag_bytes(numbers), &[]),
         };
         let mut bytes = vec![self.letter() as u8];
         bytes.extend((entries as u16).to_be_bytes());
@@ -148,10 +139,11 @@ fn steps_bytes(sensor: &[u16; 9], torque: u32) -> Vec<u8> {
 }
 
 /// Ratio and speed, how many readings there are, the readings, then the bearing losses.
-fn drag_bytes(readings: &[u32], bearings: &[u32], ratio: u32, speed: u32) -> Vec<u8> {
-    let first = [ratio, speed, readings.len() as u32];
-    let numbers = first.iter().chain(readings).chain(bearings);
-    numbers.flat_map(|number| number.to_be_bytes()).collect()
+fn drag_bytes(numbers: &RetarderNumbers) -> Vec<u8> {
+    let first = [numbers.ratio, numbers.speed, numbers.readings.len() as u32];
+    let behind = numbers.readings.iter().chain(&numbers.bearing_losses);
+    let all = first.iter().chain(behind);
+    all.flat_map(|number| number.to_be_bytes()).collect()
 }
 
 /// Lent bytes for a listing or a file: most often enough, else just enough, just too few, or any number.

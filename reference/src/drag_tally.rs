@@ -1,20 +1,11 @@
 //! Document 02, C-17: a tally of the drags that were asked for, by how they ended, by where the retarder speed was and by how the drag went there. Each answer is held against the exact line of every segment that has the speed.
 
 use crate::refusal::Refusal;
-use crate::retarder::POINTS;
+use crate::retarder::{RetarderNumbers, POINTS};
 use crate::stored::DRAG_REFUSALS;
 use std::collections::{BTreeMap, BTreeSet};
 use std::fmt;
 use std::hash::{BuildHasher, BuildHasherDefault, DefaultHasher};
-
-/// What is handed over for a drag.
-#[derive(Clone, Copy, Hash)]
-pub struct Asked<'case> {
-    pub readings: &'case [u32],
-    pub bearings: &'case [u32],
-    pub ratio: u32,
-    pub speed: u32,
-}
 
 /// Between two neighbouring points.
 pub const SEGMENTS: usize = POINTS.len() - 1;
@@ -47,10 +38,10 @@ impl Segment {
 }
 
 /// The segments that have the retarder speed: two at a point between the first and the last, else one, or none outside the table.
-pub fn segments(asked: Asked) -> Vec<Segment> {
-    let speed = i128::from(asked.speed) * i128::from(asked.ratio);
-    let pairs = asked.readings.iter().zip(asked.bearings);
-    let drags = pairs.map(|(reading, bearing)| i128::from(*reading) - i128::from(*bearing));
+pub fn segments(numbers: &RetarderNumbers) -> Vec<Segment> {
+    let speed = i128::from(numbers.speed) * i128::from(numbers.ratio);
+    let pairs = numbers.readings.iter().zip(&numbers.bearing_losses);
+    let drags = pairs.map(|(reading, loss)| i128::from(*reading) - i128::from(*loss));
     let points = POINTS.iter().map(|point| i128::from(*point) * 10_000);
     let ends: Vec<(i128, i128)> = points.zip(drags).collect();
     let all = ends.windows(2).enumerate().map(|(index, ends)| {
@@ -89,14 +80,14 @@ pub struct DragTally {
 
 impl DragTally {
     /// The answer for what was handed over.
-    pub fn add(&mut self, asked: Asked, answer: &Result<u32, Refusal>) {
-        let segments = segments(asked);
+    pub fn add(&mut self, numbers: &RetarderNumbers, answer: &Result<u32, Refusal>) {
+        let segments = segments(numbers);
         if let Ok(drag) = answer {
             let holds = segments.iter().all(|segment| segment.holds(*drag));
             self.outside += u64::from(segments.is_empty() || !holds);
         }
         let hasher = BuildHasherDefault::<DefaultHasher>::default();
-        if !self.inputs.insert(hasher.hash_one(asked)) {
+        if !self.inputs.insert(hasher.hash_one(numbers)) {
             return;
         }
         match answer {

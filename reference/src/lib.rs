@@ -48,6 +48,7 @@ pub mod questions;
 pub mod random;
 pub mod refused_number_cases;
 pub mod refused_numbers;
+pub mod remainders;
 pub mod reply;
 pub mod steps_cases;
 pub mod steps_tally;

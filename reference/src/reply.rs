@@ -3,7 +3,7 @@
 use crate::allowances::Allowances;
 use crate::cases::Case;
 use crate::component::{self, Component, Kind};
-use crate::drag_tally::{Asked, DragTally};
+use crate::drag_tally::DragTally;
 use crate::exact::{ExactMap, Verdict};
 use crate::listing::{listing, listing_of_data, report_of};
 use crate::load_tally::LoadTally;
@@ -14,7 +14,7 @@ use crate::map::{self, Map};
 use crate::questions::Question;
 use crate::refusal::Refusal;
 use crate::refused_numbers::RefusedNumbers;
-use crate::retarder;
+use crate::retarder::{self, RetarderNumbers};
 use crate::steps;
 use crate::steps_tally::StepsTally;
 use crate::writer::{self, HandedNumbers};
@@ -150,27 +150,14 @@ pub fn reply(case: &Case, seen: &mut Seen) -> Vec<u8> {
         Case::Write { numbers, room } => write_reply(numbers, *room, seen).into_bytes(),
         Case::Steps { sensor, torque } => steps_reply(*sensor, *torque, seen).into_bytes(),
         Case::Load { text, entries } => load_reply(text, *entries, seen).into_bytes(),
-        Case::Drag {
-            readings,
-            bearings,
-            ratio,
-            speed,
-        } => {
-            let asked = Asked {
-                readings,
-                bearings,
-                ratio: *ratio,
-                speed: *speed,
-            };
-            drag_reply(asked, seen).into_bytes()
-        }
+        Case::Drag(numbers) => drag_reply(numbers, seen).into_bytes(),
     }
 }
 
 /// Nothing is lent, so no line says that it is kept.
-fn drag_reply(asked: Asked, seen: &mut Seen) -> String {
-    let answer = retarder::drag(asked.readings, asked.bearings, asked.ratio, asked.speed);
-    seen.drags.add(asked, &answer);
+fn drag_reply(numbers: &RetarderNumbers, seen: &mut Seen) -> String {
+    let answer = retarder::drag(numbers);
+    seen.drags.add(numbers, &answer);
     answer.map_or_else(refused_line, drag_line)
 }
 

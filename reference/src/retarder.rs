@@ -20,35 +20,47 @@ pub const LARGEST_DRAG: u32 = 10_000_000;
 /// Ten-thousandths of rpm: tenths of the drive's rpm times thousandths of the ratio.
 const PARTS_OF_RPM: u128 = 10_000;
 
-/// The drag in hundredths of Nm for readings and bearing losses in hundredths of Nm, a
-/// ratio in thousandths and a drive speed in tenths of rpm. Refused are a ratio or a
-/// count outside its limits and readings and bearing losses unequal in number, with 45,
-/// then a bearing loss above its reading and a drag above the largest, with 46, then a
-/// retarder speed outside the table, with 47; all with place 0.
-pub fn drag(
-    readings: &[u32],
-    bearings: &[u32],
-    ratio: u32,
-    drive_speed: u32,
-) -> Result<u32, Refusal> {
-    let ratio_is_right = (LOWEST_RATIO..=HIGHEST_RATIO).contains(&ratio);
+/// What is handed over for a drag. Nothing of it need be right.
+#[derive(Clone, PartialEq, Eq, PartialOrd, Ord, Hash, Debug)]
+pub struct RetarderNumbers {
+    /// In hundredths of Nm.
+    pub readings: Vec<u32>,
+    /// In hundredths of Nm.
+    pub bearing_losses: Vec<u32>,
+    /// In thousandths.
+    pub ratio: u32,
+    /// Of the drive, in tenths of rpm.
+    pub speed: u32,
+}
+
+/// The drag in hundredths of Nm. Refused are a ratio or a count outside its limits and
+/// readings and bearing losses unequal in number, with 45, then a bearing loss above its
+/// reading and a drag above the largest, with 46, then a retarder speed outside the
+/// table, with 47; all with place 0.
+pub fn drag(numbers: &RetarderNumbers) -> Result<u32, Refusal> {
+    let RetarderNumbers {
+        readings,
+        bearing_losses,
+        ratio,
+        speed,
+    } = numbers;
+    let ratio_is_right = (LOWEST_RATIO..=HIGHEST_RATIO).contains(ratio);
     let count_is_right = (LEAST_POINTS..=POINTS.len()).contains(&readings.len());
-    if !ratio_is_right || !count_is_right || bearings.len() != readings.len() {
+    if !ratio_is_right || !count_is_right || bearing_losses.len() != readings.len() {
         return Err(Refusal::at(45, 0));
     }
-    let drags = drags(readings, bearings)?;
-    let speed = u128::from(drive_speed) * u128::from(ratio);
-    drag_at(&drags, speed)
+    let drags = drags(readings, bearing_losses)?;
+    drag_at(&drags, u128::from(*speed) * u128::from(*ratio))
 }
 
 /// The drag at each point: every reading less its bearing loss.
-fn drags(readings: &[u32], bearings: &[u32]) -> Result<Vec<u32>, Refusal> {
-    let drag = |(reading, bearing): (&u32, &u32)| {
-        let drag = reading.checked_sub(*bearing);
+fn drags(readings: &[u32], bearing_losses: &[u32]) -> Result<Vec<u32>, Refusal> {
+    let drag = |(reading, bearing_loss): (&u32, &u32)| {
+        let drag = reading.checked_sub(*bearing_loss);
         drag.filter(|drag| *drag <= LARGEST_DRAG)
             .ok_or(Refusal::at(46, 0))
     };
-    readings.iter().zip(bearings).map(drag).collect()
+    readings.iter().zip(bearing_losses).map(drag).collect()
 }
 
 /// A point's speed in ten-thousandths of rpm.
@@ -76,6 +88,20 @@ mod tests {
 
     fn refused(number: u8) -> Result<u32, Refusal> {
         Err(Refusal::at(number, 0))
+    }
+
+    fn drag(
+        readings: &[u32],
+        bearing_losses: &[u32],
+        ratio: u32,
+        speed: u32,
+    ) -> Result<u32, Refusal> {
+        super::drag(&RetarderNumbers {
+            readings: readings.to_vec(),
+            bearing_losses: bearing_losses.to_vec(),
+            ratio,
+            speed,
+        })
     }
 
     /// Drags of 900 at 200 rpm and 1,300 at 400 rpm.
@@ -125,7 +151,7 @@ mod tests {
 
     #[test]
     fn drags_at_their_limits() {
-        let first = |reading, bearing| drag(&[reading, 0], &[bearing, 0], 1_000, 2_000);
+        let first = |reading, bearing_loss| drag(&[reading, 0], &[bearing_loss, 0], 1_000, 2_000);
         assert_eq!(first(10_000_001, 1), Ok(10_000_000));
         assert_eq!(first(10_000_001, 0), refused(46));
         assert_eq!(first(u32::MAX, u32::MAX), Ok(0));

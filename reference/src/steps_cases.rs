@@ -5,6 +5,7 @@ use crate::data::SENSOR_RANGES;
 use crate::loss::Fraction;
 use crate::random::Source;
 use crate::refused_number_cases::Place;
+use crate::remainders::least_factor;
 use crate::steps::checked_steps;
 
 /// Changes the seed: the draws for these cases are none of those for others.
@@ -224,7 +225,7 @@ fn chance_remainder(source: &mut Source, part: usize, remainder: fn(u128) -> u12
         unrounded(with(sensor, 0, 1), 0, part)?
     };
     let denominator = unit.denominator;
-    let least = factor(unit.numerator, denominator, remainder(denominator))?;
+    let least = least_factor(unit.numerator, denominator, remainder(denominator))?;
     // The same remainder comes again with each denominator more.
     let factor = least + denominator * u128::from(source.below(3));
     let torque = if is_of_torque {
@@ -235,38 +236,6 @@ fn chance_remainder(source: &mut Source, part: usize, remainder: fn(u128) -> u12
     };
     let found = unrounded(sensor, torque, part)?;
     (found.numerator > 0).then(|| case(sensor, torque))
-}
-
-/// The least factor from 1 on whose product with the unit leaves this remainder.
-pub(crate) fn factor(unit: u128, denominator: u128, remainder: u128) -> Option<u128> {
-    let common = common_divisor(unit, denominator);
-    if !remainder.is_multiple_of(common) {
-        return None;
-    }
-    let (unit, denominator) = (unit / common, denominator / common);
-    let inverse = inverse(unit % denominator, denominator);
-    let factor = remainder / common % denominator * inverse % denominator;
-    Some(if factor == 0 { denominator } else { factor })
-}
-
-fn common_divisor(first: u128, second: u128) -> u128 {
-    match second {
-        0 => first,
-        _ => common_divisor(second, first % second),
-    }
-}
-
-/// The number whose product with this one leaves 1; both have no common divisor.
-fn inverse(number: u128, denominator: u128) -> u128 {
-    // Each rest is its factor times the number, but for multiples of the denominator.
-    let (mut rests, mut factors) = ((denominator, number), (0, 1 % denominator));
-    while rests.1 > 1 {
-        let times = rests.0 / rests.1 % denominator;
-        let next = (factors.0 + denominator * denominator - times * factors.1) % denominator;
-        rests = (rests.1, rests.0 % rests.1);
-        factors = (factors.1, next);
-    }
-    factors.1
 }
 
 /// A sensor and a torque with these parts: a, b, a tenth of g, and h, each at most 10,000.

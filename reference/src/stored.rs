@@ -6,6 +6,7 @@ use crate::lookup::Axis;
 use crate::questions::Question;
 use crate::random::Source;
 use crate::reply::{reply, Excess, Seen, Writes};
+use crate::retarder::RetarderNumbers;
 use crate::writer::HandedNumbers;
 use crate::{
     allowance_cases, drag_cases, load_cases, refused_number_cases, steps_cases, valid, write_cases,
@@ -123,16 +124,16 @@ pub fn load_of(bytes: &[u8]) -> (usize, &[u8]) {
 }
 
 /// A drag: ratio, speed and the count of readings, four bytes each, then the readings, then the bearing losses to the end.
-pub fn drag_of(bytes: &[u8]) -> Case {
+pub fn drag_of(bytes: &[u8]) -> RetarderNumbers {
     assert!(bytes.len().is_multiple_of(4), "numbers of four bytes");
     let numbers: Vec<u32> = bytes
         .chunks_exact(4)
         .map(|bytes| number_of(bytes) as u32)
         .collect();
-    let (readings, bearings) = numbers[3..].split_at(numbers[2] as usize);
-    Case::Drag {
+    let (readings, bearing_losses) = numbers[3..].split_at(numbers[2] as usize);
+    RetarderNumbers {
         readings: readings.to_vec(),
-        bearings: bearings.to_vec(),
+        bearing_losses: bearing_losses.to_vec(),
         ratio: numbers[0],
         speed: numbers[1],
     }
@@ -157,7 +158,7 @@ fn hand_case((letter, bytes): (char, Vec<u8>)) -> Case {
                 entries,
             }
         }
-        'd' => drag_of(&bytes),
+        'd' => Case::Drag(drag_of(&bytes)),
         _ => {
             let (question, data) = question_of(&bytes);
             Case::Build {

@@ -1,10 +1,10 @@
 //! The stored cases of request C-17 have what they must have: each refusal in each way and at each place, every count of points, each segment with drags that fall, rise and stay, speeds on each point and next to it, drags that are just whole and just not, and the widest numbers.
 
 use reference::cases::Case;
-use reference::drag_tally::{segments, Asked, Segment, SEGMENTS};
+use reference::drag_tally::{segments, Segment, SEGMENTS};
 use reference::refusal::Refusal;
 use reference::reply::{reply, Seen};
-use reference::retarder::{drag, LARGEST_DRAG, POINTS};
+use reference::retarder::{drag, RetarderNumbers, LARGEST_DRAG, POINTS};
 use reference::stored::{broken, stored_cases, DRAG_REFUSALS};
 use std::collections::BTreeSet;
 use std::sync::LazyLock;
@@ -14,10 +14,7 @@ const EARLIER_CASES: usize = 11_910;
 
 /// What is handed over for a drag, and the answer.
 struct Drag {
-    readings: Vec<u32>,
-    bearings: Vec<u32>,
-    ratio: u32,
-    speed: u32,
+    numbers: RetarderNumbers,
     answer: Result<u32, Refusal>,
 }
 
@@ -26,17 +23,8 @@ impl Drag {
         self.answer.is_err_and(|refusal| refusal.number == number)
     }
 
-    fn asked(&self) -> Asked<'_> {
-        Asked {
-            readings: &self.readings,
-            bearings: &self.bearings,
-            ratio: self.ratio,
-            speed: self.speed,
-        }
-    }
-
     fn segments(&self) -> Vec<Segment> {
-        segments(self.asked())
+        segments(&self.numbers)
     }
 
     /// The segment that has the speed between its points, of an answer.
@@ -48,27 +36,38 @@ impl Drag {
 
     /// The retarder speed in ten-thousandths of rpm.
     fn retarder_speed(&self) -> u64 {
-        u64::from(self.ratio) * u64::from(self.speed)
+        u64::from(self.numbers.ratio) * u64::from(self.numbers.speed)
+    }
+
+    /// Of the readings and of the bearing losses.
+    fn counts(&self) -> (usize, usize) {
+        let numbers = &self.numbers;
+        (numbers.readings.len(), numbers.bearing_losses.len())
     }
 
     fn ratio_is_right(&self) -> bool {
-        (100..=10_000).contains(&self.ratio)
+        (100..=10_000).contains(&self.numbers.ratio)
     }
 
     fn count_is_right(&self) -> bool {
-        (2..=13).contains(&self.readings.len())
+        (2..=13).contains(&self.counts().0)
     }
 
     fn is_equal_in_number(&self) -> bool {
-        self.readings.len() == self.bearings.len()
+        let (readings, bearing_losses) = self.counts();
+        readings == bearing_losses
+    }
+
+    /// Each reading with its bearing loss.
+    fn pairs(&self) -> impl Iterator<Item = (u32, u32)> + '_ {
+        let readings = self.numbers.readings.iter().copied();
+        readings.zip(self.numbers.bearing_losses.iter().copied())
     }
 
     /// Each reading less its bearing loss.
     fn drags(&self) -> Vec<i64> {
-        let pairs = self.readings.iter().zip(&self.bearings);
-        pairs
-            .map(|(reading, bearing)| i64::from(*reading) - i64::from(*bearing))
-            .collect()
+        let drag = |(reading, bearing_loss)| i64::from(reading) - i64::from(bearing_loss);
+        self.pairs().map(drag).collect()
     }
 
     fn drags_are_right(&self) -> bool {
@@ -77,7 +76,7 @@ impl Drag {
 
     /// Whether the speed is within a table of so many readings; of the first of them where there are too many.
     fn speed_is_right(&self) -> bool {
-        let last = self.readings.len().clamp(1, POINTS.len()) - 1;
+        let last = self.counts().0.clamp(1, POINTS.len()) - 1;
         (point(0)..=point(last)).contains(&self.retarder_speed())
     }
 }
@@ -94,21 +93,13 @@ fn point(index: usize) -> u64 {
 /// The stored cases of this request, each once.
 static DRAGS: LazyLock<Vec<Drag>> = LazyLock::new(|| {
     let inputs = stored_cases().into_iter().filter_map(|case| match case {
-        Case::Drag {
-            readings,
-            bearings,
-            ratio,
-            speed,
-        } => Some((readings, bearings, ratio, speed)),
+        Case::Drag(numbers) => Some(numbers),
         _ => None,
     });
-    let inputs: BTreeSet<(Vec<u32>, Vec<u32>, u32, u32)> = inputs.collect();
-    let answered = |(readings, bearings, ratio, speed): (Vec<u32>, Vec<u32>, u32, u32)| Drag {
-        answer: drag(&readings, &bearings, ratio, speed),
-        readings,
-        bearings,
-        ratio,
-        speed,
+    let inputs: BTreeSet<RetarderNumbers> = inputs.collect();
+    let answered = |numbers| Drag {
+        answer: drag(&numbers),
+        numbers,
     };
     inputs.into_iter().map(answered).collect()
 });
@@ -137,7 +128,8 @@ fn drags_are_behind_all_other_cases() {
     let count = cases.len() - EARLIER_CASES;
     assert!((600..=900).contains(&count), "{count}");
     for drag in DRAGS.iter() {
-        assert!(drag.readings.len() <= 1_000 && drag.bearings.len() <= 1_000);
+        let (readings, bearing_losses) = drag.counts();
+        assert!(readings <= 1_000 && bearing_losses <= 1_000);
     }
 }
 
@@ -166,13 +158,14 @@ fn each_refusal_is_that_of_the_first_fault() {
 #[test]
 fn ratios_are_at_their_limits_and_past_them() {
     for ratio in [100, 101, 9_999, 10_000] {
-        let count = answered().filter(|drag| drag.ratio == ratio).count();
+        let found = answered().filter(|drag| drag.numbers.ratio == ratio);
+        let count = found.count();
         assert!(count >= 4, "{ratio}: {count}");
     }
     // The last two are right in their last two bytes.
     for ratio in [0, 99, 10_001, u32::MAX, 65_636, 66_536] {
         let alone = |drag: &&Drag| {
-            drag.ratio == ratio
+            drag.numbers.ratio == ratio
                 && drag.count_is_right()
                 && drag.is_equal_in_number()
                 && drag.drags_are_right()
@@ -187,14 +180,14 @@ fn ratios_are_at_their_limits_and_past_them() {
 #[test]
 fn counts_are_at_their_limits_and_past_them() {
     for count in 2..=13 {
-        let held = answered().filter(|drag| drag.readings.len() == count);
+        let held = answered().filter(|drag| drag.counts().0 == count);
         let held = held.count();
         assert!(held >= 5, "{count}: {held}");
     }
     let right_but_counts = |drag: &&Drag| drag.ratio_is_right() && drag.drags_are_right();
-    let with_counts = |readings: usize, bearings: usize| {
+    let with_counts = |readings: usize, bearing_losses: usize| {
         let mut found = refused(45).filter(right_but_counts);
-        found.any(|drag| (drag.readings.len(), drag.bearings.len()) == (readings, bearings))
+        found.any(|drag| drag.counts() == (readings, bearing_losses))
     };
     // The last three are right in their last byte, or far too many.
     for count in [0, 1, 14, 15, 16, 258, 269, 1_000] {
@@ -204,8 +197,9 @@ fn counts_are_at_their_limits_and_past_them() {
         assert!(with_counts(count, count - 1), "{count} and one less");
         assert!(with_counts(count, count + 1), "{count} and one more");
     }
-    for (readings, bearings) in [(0, 2), (2, 0), (1, 2), (14, 13), (2, 258), (258, 2)] {
-        assert!(with_counts(readings, bearings), "{readings} and {bearings}");
+    for (readings, bearing_losses) in [(0, 2), (2, 0), (1, 2), (14, 13), (2, 258), (258, 2)] {
+        let is_there = with_counts(readings, bearing_losses);
+        assert!(is_there, "{readings} and {bearing_losses}");
     }
     let of_count = refused(45).filter(right_but_counts);
     let of_count = of_count.filter(|drag| !drag.count_is_right() && drag.is_equal_in_number());
@@ -217,9 +211,9 @@ fn counts_are_at_their_limits_and_past_them() {
 
 #[test]
 fn readings_are_refused_at_each_point() {
-    let bearing_above = |drag: i64| drag < 0;
+    let bearing_loss_above = |drag: i64| drag < 0;
     let drag_above = |drag: i64| drag > i64::from(LARGEST_DRAG);
-    for is_wrong in [bearing_above, drag_above] {
+    for is_wrong in [bearing_loss_above, drag_above] {
         let found = refused(46).filter(|drag| drag.drags().into_iter().any(is_wrong));
         assert!(found.count() >= 20);
     }
@@ -238,17 +232,11 @@ fn readings_are_refused_at_each_point() {
             assert!(answered().any(is_there), "{due} at point {index}");
         }
     }
-    for (reading, bearing) in [(0, 1), (0, u32::MAX), (u32::MAX, 0)] {
-        let is_there = |drag: &Drag| {
-            let mut pairs = drag.readings.iter().zip(&drag.bearings);
-            pairs.any(|pair| pair == (&reading, &bearing))
-        };
-        assert!(refused(46).any(is_there), "{reading} less {bearing}");
+    for due in [(0, 1), (0, u32::MAX), (u32::MAX, 0)] {
+        let is_there = |drag: &Drag| drag.pairs().any(|pair| pair == due);
+        assert!(refused(46).any(is_there), "{due:?}");
     }
-    let is_highest = |drag: &Drag| {
-        let mut pairs = drag.readings.iter().zip(&drag.bearings);
-        pairs.any(|pair| pair == (&u32::MAX, &u32::MAX))
-    };
+    let is_highest = |drag: &Drag| drag.pairs().any(|pair| pair == (u32::MAX, u32::MAX));
     assert!(answered().any(is_highest));
 }
 
@@ -257,7 +245,7 @@ fn speeds_are_on_the_first_and_the_last_point_and_past_them() {
     let at = |count: usize, speed: u64| {
         let all = DRAGS.iter().filter(move |drag| {
             let is_right = drag.ratio_is_right() && drag.is_equal_in_number();
-            is_right && drag.drags_are_right() && drag.readings.len() == count
+            is_right && drag.drags_are_right() && drag.counts().0 == count
         });
         let mut all = all.filter(move |drag| drag.retarder_speed() == speed);
         all.next().map(|drag| drag.answer.is_ok())
@@ -286,7 +274,7 @@ fn speeds_are_on_the_first_and_the_last_point_and_past_them() {
         speed >= 1 << 32 && (point(0)..point(1)).contains(&(speed % (1 << 32)))
     });
     assert!(cut.count() >= 5);
-    let highest = |number| refused(number).any(|drag| drag.speed == u32::MAX);
+    let highest = |number| refused(number).any(|drag| drag.numbers.speed == u32::MAX);
     assert!(DRAG_REFUSALS.into_iter().all(highest));
 }
 
@@ -378,48 +366,49 @@ fn a_refusal_comes_before_the_later_ones() {
     assert!(found.iter().all(|count| *count >= 8), "{found:?}");
 }
 
-/// The text of an answer, and what the tally counts of it.
-fn asked(readings: &[u32], speed: u32, seen: &mut Seen) -> String {
-    let case = Case::Drag {
+/// A ratio of 1, and this bearing loss at each point.
+fn numbers(readings: &[u32], bearing_loss: u32, speed: u32) -> RetarderNumbers {
+    RetarderNumbers {
         readings: readings.to_vec(),
-        bearings: vec![10; readings.len()],
+        bearing_losses: vec![bearing_loss; readings.len()],
         ratio: 1_000,
         speed,
-    };
-    String::from_utf8(reply(&case, seen)).unwrap()
+    }
 }
+
+/// Readings with bearing losses of 10, a speed, and the line that is due. The third is the second again.
+const ASKED: [(&[u32], u32, &str); 10] = [
+    (&[10, 11], 2_000, "drag 0\n"),
+    (&[10, 11], 2_001, "drag 1\n"),
+    (&[10, 11], 2_001, "drag 1\n"),
+    (&[11, 10], 3_000, "drag 1\n"),
+    (&[12, 10], 3_000, "drag 1\n"),
+    (&[12, 10, 10], 4_500, "drag 0\n"),
+    (&[12, 10, 10], 4_000, "drag 0\n"),
+    (&[12, 10, 10], 6_001, "refused 47 at 0\n"),
+    (&[12, 10, 9], 6_001, "refused 46 at 0\n"),
+    (&[12], 6_001, "refused 45 at 0\n"),
+];
+
+/// What the tally writes after these.
+const TALLY_LINES: [&str; 7] = [
+    "retarders asked for their drag: 10\n",
+    "different inputs with a drag: 6, exact: 4, rounded up: 2, outside its limits: 0\n",
+    "drags at a point: 2, between two points where it falls: 2, rises: 1, is level: 1\n",
+    "drags between two points, by the lower one in rpm: 200: 3, 400: 1, 600: 0, 900: 0, 1200: 0, 1600: 0, 2000: 0, 2500: 0, 3000: 0, 3500: 0, 4000: 0, 4500: 0\n",
+    "refusal 45 of a drag: 1 different inputs\n",
+    "refusal 46 of a drag: 1 different inputs\n",
+    "refusal 47 of a drag: 1 different inputs\n",
+];
 
 #[test]
 fn the_tally_counts_what_was_asked() {
     let mut seen = Seen::default();
-    let mut lines = Vec::new();
-    for (readings, speed) in [
-        (&[10, 11][..], 2_000),
-        (&[10, 11], 2_001),
-        (&[10, 11], 2_001),
-        (&[11, 10], 3_000),
-        (&[12, 10], 3_000),
-        (&[12, 10, 10], 4_500),
-        (&[12, 10, 10], 4_000),
-        (&[12, 10, 10], 6_001),
-        (&[12, 10, 9], 6_001),
-        (&[12], 6_001),
-    ] {
-        lines.push(asked(readings, speed, &mut seen));
+    for (readings, speed, due) in ASKED {
+        let case = Case::Drag(numbers(readings, 10, speed));
+        let line = String::from_utf8(reply(&case, &mut seen)).unwrap();
+        assert_eq!(line, due, "{readings:?} at {speed}");
     }
-    let expected = [
-        "drag 0\n",
-        "drag 1\n",
-        "drag 1\n",
-        "drag 1\n",
-        "drag 1\n",
-        "drag 0\n",
-        "drag 0\n",
-        "refused 47 at 0\n",
-        "refused 46 at 0\n",
-        "refused 45 at 0\n",
-    ];
-    assert_eq!(lines, expected);
     // The same input is counted once.
     let tally = &seen.drags;
     assert_eq!((tally.answered(), seen.cases[&'d']), (6, 10));
@@ -431,15 +420,7 @@ fn the_tally_counts_what_was_asked() {
     assert_eq!(counts[..10], [6, 4, 2, 2, 2, 1, 1, 1, 1, 1]);
     assert_eq!(counts[10..], [3, 1, 0, 0, 0, 0, 0, 0, 0, 0, 0, 0]);
     let text = seen.to_string();
-    for line in [
-        "retarders asked for their drag: 10\n",
-        "different inputs with a drag: 6, exact: 4, rounded up: 2, outside its limits: 0\n",
-        "drags at a point: 2, between two points where it falls: 2, rises: 1, is level: 1\n",
-        "drags between two points, by the lower one in rpm: 200: 3, 400: 1, 600: 0, 900: 0, 1200: 0, 1600: 0, 2000: 0, 2500: 0, 3000: 0, 3500: 0, 4000: 0, 4500: 0\n",
-        "refusal 45 of a drag: 1 different inputs\n",
-        "refusal 46 of a drag: 1 different inputs\n",
-        "refusal 47 of a drag: 1 different inputs\n",
-    ] {
+    for line in TALLY_LINES {
         assert!(text.contains(line), "{line}{text}");
     }
     assert_eq!(broken(&seen), 0);
@@ -448,16 +429,10 @@ fn the_tally_counts_what_was_asked() {
 /// Answers that no rule gives, between two points, on a point that two segments share, and outside the table.
 #[test]
 fn drags_outside_their_limits_are_broken() {
-    let readings = [100, 201, 50];
     let outside = |speed: u32, drag: u32| {
         let mut seen = Seen::default();
-        let asked = Asked {
-            readings: &readings,
-            bearings: &[0; 3],
-            ratio: 1_000,
-            speed,
-        };
-        seen.drags.add(asked, &Ok(drag));
+        let numbers = numbers(&[100, 201, 50], 0, speed);
+        seen.drags.add(&numbers, &Ok(drag));
         assert_eq!(broken(&seen), seen.drags.outside);
         broken(&seen)
     };
@@ -475,12 +450,12 @@ fn drags_outside_their_limits_are_broken() {
 
 #[test]
 fn bytes_of_a_case() {
-    let case = Case::Drag {
+    let case = Case::Drag(RetarderNumbers {
         readings: vec![0x0A0B_0C0D, 1],
-        bearings: vec![2],
+        bearing_losses: vec![2],
         ratio: 0x0102_0304,
         speed: 0x0506_0708,
-    };
+    });
     let mut expected = b"d".to_vec();
     // No entries, no room, 24 bytes of body, no questions.
     expected.extend([0, 0, 0, 0, 0, 0, 0, 0, 0, 24, 0]);

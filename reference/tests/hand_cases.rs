@@ -1,6 +1,5 @@
 //! cases/cases.txt against cases/answers.txt, which a third program reckoned in exact fractions, with the allowance of request C-13; those of kind 3, of the writer, of that request and of requests C-14 to C-17, the last ones, were reckoned by hand, but for the last one of C-13.
 
-use reference::cases::Case;
 use reference::component;
 use reference::listing::report;
 use reference::loader::load;
@@ -55,16 +54,7 @@ fn load_answer(bytes: &[u8]) -> String {
 }
 
 fn drag_answer(bytes: &[u8]) -> String {
-    let Case::Drag {
-        readings,
-        bearings,
-        ratio,
-        speed,
-    } = drag_of(bytes)
-    else {
-        panic!("not a drag");
-    };
-    drag(&readings, &bearings, ratio, speed).map_or_else(refused, drag_line)
+    drag(&drag_of(bytes)).map_or_else(refused, drag_line)
 }
 
 fn answer((letter, bytes): (char, Vec<u8>)) -> String {

@@ -124,7 +124,7 @@ impl Handed {
                 Handed::of_data('b', data, *entries, answer)
             }
             Case::Write { numbers, room } => Some(Handed::of_numbers(numbers, *room)),
-            Case::Map { .. } | Case::Steps { .. } | Case::Load { .. } | Case::Drag { .. } => None,
+            Case::Map { .. } | Case::Steps { .. } | Case::Load { .. } | Case::Drag(_) => None,
         }
     }
 

@@ -4,9 +4,18 @@ use crate::support::*;
 use reference::cases::Case;
 use reference::drag_cases::by_chance;
 use reference::refusal::Refusal;
-use reference::retarder::{drag, POINTS};
+use reference::retarder::{self, RetarderNumbers, POINTS};
 
 const SEED: u64 = 17;
+
+fn drag(readings: &[u32], bearing_losses: &[u32], ratio: u32, speed: u32) -> Result<u32, Refusal> {
+    retarder::drag(&RetarderNumbers {
+        readings: readings.to_vec(),
+        bearing_losses: bearing_losses.to_vec(),
+        ratio,
+        speed,
+    })
+}
 
 /// Drags of 900 at 200 rpm and 1,300 at 400 rpm.
 fn of_two(ratio: u32, speed: u32) -> Result<u32, Refusal> {
@@ -47,63 +56,61 @@ fn a_falling_drag_is_rounded_up() {
 fn tables_of_each_count() {
     let readings: Vec<u32> = (1..=13).map(|index| 100 * index).collect();
     for count in 2..=13 {
-        let bearings = vec![1; count];
-        let at = |speed| drag(&readings[..count], &bearings, 100, 100 * speed);
+        let bearing_losses = vec![1; count];
+        let at = |speed| drag(&readings[..count], &bearing_losses, 100, 100 * speed);
         assert_eq!(at(200), Ok(99));
         assert_eq!(at(POINTS[count - 1]), Ok(readings[count - 1] - 1));
         assert_eq!(at(POINTS[count - 1] + 1), refused(47, 0));
     }
 }
 
-/// The refusal of each case in words of this file, and of each answer that it is the least that reaches.
+/// The number of the refusal that is due, or else the least drag that reaches the exact one.
+fn due(numbers: &RetarderNumbers) -> Result<i128, u8> {
+    let counts = (numbers.readings.len(), numbers.bearing_losses.len());
+    let counts_are_right = (2..=13).contains(&counts.0) && counts.0 == counts.1;
+    if !(100..=10_000).contains(&numbers.ratio) || !counts_are_right {
+        return Err(45);
+    }
+    let pairs = numbers.readings.iter().zip(&numbers.bearing_losses);
+    let drags: Vec<i128> = pairs
+        .map(|(reading, loss)| i128::from(*reading) - i128::from(*loss))
+        .collect();
+    if drags.iter().any(|drag| *drag < 0 || *drag > 10_000_000) {
+        return Err(46);
+    }
+    let parts = i128::from(numbers.ratio) * i128::from(numbers.speed);
+    let points = POINTS.map(|point| 10_000 * i128::from(point));
+    let last = drags.len() - 1;
+    if parts < points[0] || parts > points[last] {
+        return Err(47);
+    }
+    // From the upper point down; the drag of the point itself at a point.
+    let upper = points.iter().position(|point| *point >= parts).unwrap();
+    let lower = upper.saturating_sub(1);
+    let width = (points[upper] - points[lower]).max(1);
+    let fall = (drags[upper] - drags[lower]) * (points[upper] - parts);
+    Ok(drags[upper] - fall.div_euclid(width))
+}
+
+/// The refusal of each case in words of this file, and each answer reckoned from the upper point.
 #[test]
 fn each_answer_is_the_due_one() {
     let (mut answered, mut refused) = (0, 0);
     for number in 0..20_000 {
-        let Case::Drag {
-            readings,
-            bearings,
-            ratio,
-            speed,
-        } = by_chance(SEED, number)
-        else {
+        let Case::Drag(numbers) = by_chance(SEED, number) else {
             panic!("not a drag");
         };
-        let answer = drag(&readings, &bearings, ratio, speed);
-        let drags: Vec<i128> = readings
-            .iter()
-            .zip(&bearings)
-            .map(|(reading, bearing)| i128::from(*reading) - i128::from(*bearing))
-            .collect();
-        let parts = i128::from(ratio) * i128::from(speed);
-        let points: Vec<i128> = POINTS.map(|point| 10_000 * i128::from(point)).to_vec();
-        let counts_are_right =
-            (2..=13).contains(&readings.len()) && bearings.len() == readings.len();
-        let due = if !(100..=10_000).contains(&ratio) || !counts_are_right {
-            Some(45)
-        } else if drags.iter().any(|drag| *drag < 0 || *drag > 10_000_000) {
-            Some(46)
-        } else {
-            let last = points[drags.len() - 1];
-            (parts < points[0] || parts > last).then_some(47)
-        };
-        let found = answer.map_err(|refusal| (refusal.number, refusal.place, refusal.index));
-        match (found, due) {
-            (Err(told), Some(number)) => {
-                assert_eq!(told, (number, 0, None));
-                refused += 1;
-            }
-            (Ok(drag), None) => {
-                // From the upper point down; the drag of the point itself at a point.
-                let upper = points.iter().position(|point| *point >= parts).unwrap();
-                let lower = upper.saturating_sub(1);
-                let width = (points[upper] - points[lower]).max(1);
-                let fall = (drags[upper] - drags[lower]) * (points[upper] - parts);
-                let above = (i128::from(drag) - drags[upper]) * width + fall;
-                assert!(0 <= above && above < width, "{readings:?} {parts}: {drag}");
+        let answer = retarder::drag(&numbers);
+        match due(&numbers) {
+            Ok(drag) => {
+                assert_eq!(answer.map(i128::from), Ok(drag), "{numbers:?}");
                 answered += 1;
             }
-            (found, due) => panic!("{found:?}, {due:?} is due: {readings:?} {bearings:?} {parts}"),
+            Err(number) => {
+                let told = answer.map_err(|told| (told.number, told.place, told.index));
+                assert_eq!(told, Err((number, 0, None)), "{numbers:?}");
+                refused += 1;
+            }
         }
     }
     assert!(answered > 5_000 && refused > 5_000, "{answered} {refused}");
