@@ -6,7 +6,8 @@ use reference::component;
 use reference::lookup::{Axis, LentMap};
 use reference::map::Map;
 use reference::questions::Question;
-use reference::reply::{loaded_line, unpadded, written_again, written_lines};
+use reference::reply::{drag_line, loaded_line, unpadded, written_again, written_lines};
+use reference::retarder::RetarderNumbers;
 use reference::writer::HandedNumbers;
 use std::fmt::Write;
 
@@ -78,12 +79,7 @@ pub fn answer(case: &Case, lent: &mut Lent) -> Vec<u8> {
         Case::Write { numbers, room } => write_answer(numbers, *room, &mut lent.bytes).into_bytes(),
         Case::Steps { sensor, torque } => steps_answer(*sensor, *torque).into_bytes(),
         Case::Load { text, entries } => load_answer(text, *entries, lent).into_bytes(),
-        Case::Drag {
-            readings,
-            bearings,
-            ratio,
-            speed,
-        } => drag_answer(readings, bearings, *ratio, *speed).into_bytes(),
+        Case::Drag(numbers) => drag_answer(numbers).into_bytes(),
         Case::Read(data) | Case::Program(data) => build_answer(data, 2_048, 65_536, &[], lent),
     }
 }
@@ -226,11 +222,10 @@ fn steps_answer(sensor: [u16; 9], torque: u32) -> String {
     }
 }
 
-fn drag_answer(readings: &[u32], bearings: &[u32], ratio: u32, speed: u32) -> String {
-    match axle::retarder_drag(readings, bearings, ratio, speed) {
-        Ok(drag) => format!("drag {drag}\n"),
-        Err(refusal) => refused(refusal),
-    }
+fn drag_answer(numbers: &RetarderNumbers) -> String {
+    let (readings, bearing_losses) = (&numbers.readings, &numbers.bearing_losses);
+    axle::retarder_drag(readings, bearing_losses, numbers.ratio, numbers.speed)
+        .map_or_else(refused, drag_line)
 }
 
 /// The places of an axis in an array.

@@ -316,3 +316,35 @@ pub fn load(text: &[u8], loaded: &mut Loaded) -> Option<()> {
     }
     Some(())
 }
+
+/// The points of a retarder's table, in rpm.
+const SPEED_POINTS: [u64; 13] = [
+    200, 400, 600, 900, 1200, 1600, 2000, 2500, 3000, 3500, 4000, 4500, 5000,
+];
+
+/// The drag of a retarder, none where it is refused.
+#[inline(never)]
+pub fn drag(readings: &[u32], bearing_losses: &[u32], ratio: u32, speed: u32) -> Option<u32> {
+    let points = SPEED_POINTS.get(..readings.len())?;
+    if points.len() < 2 || bearing_losses.len() != points.len() || !(100..=10_000).contains(&ratio)
+    {
+        return None;
+    }
+    let mut drags = [0; 13];
+    for ((drag, reading), loss) in drags.iter_mut().zip(readings).zip(bearing_losses) {
+        *drag = u64::from(reading.checked_sub(*loss)?);
+        if *drag > 10_000_000 {
+            return None;
+        }
+    }
+    let v = u64::from(ratio) * u64::from(speed);
+    let ends = points.windows(2).zip(drags.windows(2));
+    for (points, drags) in ends {
+        let (x, y) = (10_000 * points[0], 10_000 * points[1]);
+        if x <= v && v <= y {
+            let sum = (y - v) * drags[0] + (v - x) * drags[1];
+            return Some(sum.div_ceil(y - x) as u32);
+        }
+    }
+    None
+}

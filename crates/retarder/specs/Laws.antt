@@ -5,7 +5,20 @@ use Rattle.refusal.specs.Outcome.{Told, refusal, accepted, refused}
 use Rattle.retarder.specs.SpeedPoints.{speed_point}
 use Rattle.retarder.specs.Drag.{retarder_speed, point_drag, exact_drag, drag_at, drag_answer}
 
--- the rules of 47, of the retarder speed v
+-- the rules of 45
+pub record WithinLimits (readings bearing_losses : List ℕ) (ratio : ℕ) : Type 0 where
+  pub ratio_from : 100 ≤ ratio
+  pub ratio_upto : ratio ≤ 10000
+  pub count_from : 2 ≤ length readings
+  pub count_upto : length readings ≤ 13
+  pub equal_in_number : length bearing_losses ≡ length readings
+
+-- those of 46, at every reading
+abbrev pub DragsFit : (readings bearing_losses : List ℕ) → Type 0
+DragsFit readings bearing_losses =
+    (i : ℕ) → i < length readings → (get_or bearing_losses i 0 ≤ get_or readings i 0) × (point_drag readings bearing_losses i ≤ 10000000)
+
+-- and those of 47, of the retarder speed v
 pub record SpeedWithin (readings : List ℕ) (v : ℕ) : Type 0 where
   pub from : speed_point 0 ≤ v
   pub upto : v ≤ speed_point (length readings - 1)
@@ -17,18 +30,6 @@ pub record OnSegment (readings : List ℕ) (v i : ℕ) : Type 0 where
   pub upto : v ≤ speed_point (i + 1)
 
 module _ (readings bearing_losses : List ℕ) where
-  -- the rules of 45
-  pub record WithinLimits (ratio : ℕ) : Type 0 where
-    pub ratio_from : 100 ≤ ratio
-    pub ratio_upto : ratio ≤ 10000
-    pub count_from : 2 ≤ length readings
-    pub count_upto : length readings ≤ 13
-    pub equal_in_number : length bearing_losses ≡ length readings
-
-  -- those of 46, at every reading
-  abbrev pub DragsFit : Type 0
-  DragsFit = (i : ℕ) → i < length readings → (get_or bearing_losses i 0 ≤ get_or readings i 0) × (point_drag readings bearing_losses i ≤ 10000000)
-
   -- "never below the exact line" and "less than 0.01 Nm above", and between the drags at the two ends of the segment
   pub record NearLine (v i answer : ℕ) : Type 0 where
     pub never_below : exact_drag readings bearing_losses v i ≼ whole answer
@@ -46,16 +47,17 @@ module _ (readings bearing_losses : List ℕ) where
   module _ (ratio speed : ℕ) where
     -- why a call is refused: the condition of its number, those tested before not holding
     pub data DragFault (told : Told) : Type 0 where
-      out_of_limits : (WithinLimits ratio → ⊥) → told ≡ refusal 45 0 → DragFault told
-      drag_out_of_range : WithinLimits ratio → (DragsFit → ⊥) → told ≡ refusal 46 0 → DragFault told
-      speed_outside : WithinLimits ratio → DragsFit → (SpeedWithin readings (retarder_speed ratio speed) → ⊥) → told ≡ refusal 47 0 → DragFault told
+      out_of_limits : (WithinLimits readings bearing_losses ratio → ⊥) → told ≡ refusal 45 0 → DragFault told
+      drag_out_of_range : WithinLimits readings bearing_losses ratio → (DragsFit readings bearing_losses → ⊥) → told ≡ refusal 46 0 → DragFault told
+      speed_outside : WithinLimits readings bearing_losses ratio → DragsFit readings bearing_losses → (SpeedWithin readings (retarder_speed ratio speed) → ⊥) → told ≡ refusal 47 0
+          → DragFault told
 
     -- a drag is answered exactly where no refusal applies, and is the one of the definition; a refusal is told exactly for its reason
     pub record DragDecided : Type 0 where
-      pub answered : WithinLimits ratio → DragsFit → SpeedWithin readings (retarder_speed ratio speed)
+      pub answered : WithinLimits readings bearing_losses ratio → DragsFit readings bearing_losses → SpeedWithin readings (retarder_speed ratio speed)
           → drag_answer readings bearing_losses ratio speed ≡ accepted (drag_at readings bearing_losses (retarder_speed ratio speed))
       pub answered_only : (answer : ℕ) → drag_answer readings bearing_losses ratio speed ≡ accepted answer
-          → WithinLimits ratio × DragsFit × SpeedWithin readings (retarder_speed ratio speed) × (answer ≡ drag_at readings bearing_losses (retarder_speed ratio speed))
+          → WithinLimits readings bearing_losses ratio × DragsFit readings bearing_losses × SpeedWithin readings (retarder_speed ratio speed) × (answer ≡ drag_at readings bearing_losses (retarder_speed ratio speed))
       pub refused_for : (told : Told) → DragFault told → drag_answer readings bearing_losses ratio speed ≡ refused told
       pub refused_only : (told : Told) → drag_answer readings bearing_losses ratio speed ≡ refused told → DragFault told
 

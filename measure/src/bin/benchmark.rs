@@ -8,6 +8,7 @@ use reference::data::{Data, Field};
 use reference::lookup::{self, LentMap};
 use reference::questions::Question;
 use reference::random::Source;
+use reference::retarder::{self, RetarderNumbers};
 use reference::writer::{self, HandedNumbers};
 use reference::{bench_run, component, listing, loader, map};
 use std::fmt::Write;
@@ -514,6 +515,58 @@ fn measure_load(what: &str, target: Target, subject: &Subject) {
     );
 }
 
+/// Retarders with readings at all thirteen points, at drive speeds over all of them.
+fn retarders() -> Vec<RetarderNumbers> {
+    let mut source = Source::new(17, 0);
+    let mut torques = |lowest, highest| -> Vec<u32> {
+        (0..13)
+            .map(|_| source.between(lowest, highest) as u32)
+            .collect()
+    };
+    let numbers = (0..QUESTIONS).map(|i| RetarderNumbers {
+        readings: torques(2_000, 30_000),
+        bearing_losses: torques(0, 2_000),
+        ratio: 1_333,
+        speed: 1_501 + (36_008 * i / (QUESTIONS - 1)) as u32,
+    });
+    numbers.collect()
+}
+
+fn library_drag(asked: &RetarderNumbers) -> Option<u32> {
+    let (readings, bearing_losses) = (&asked.readings, &asked.bearing_losses);
+    axle::retarder_drag(readings, bearing_losses, asked.ratio, asked.speed).ok()
+}
+
+fn plain_drag(asked: &RetarderNumbers) -> Option<u32> {
+    let (readings, bearing_losses) = (&asked.readings, &asked.bearing_losses);
+    plain::drag(readings, bearing_losses, asked.ratio, asked.speed)
+}
+
+fn measure_drag(what: &str) {
+    let all = retarders();
+    for asked in &all {
+        let drag = retarder::drag(asked).ok();
+        assert!(drag.is_some());
+        assert_eq!((library_drag(asked), plain_drag(asked)), (drag, drag));
+    }
+    let each = |drag: fn(&RetarderNumbers) -> Option<u32>| {
+        for asked in &all {
+            black_box(drag(black_box(asked)));
+        }
+    };
+    report(
+        what,
+        NO_TARGET,
+        vec![
+            way("library", QUESTIONS, || each(library_drag)),
+            way("Rust", QUESTIONS, || each(plain_drag)),
+            way("reference", QUESTIONS, || {
+                each(|asked| retarder::drag(asked).ok())
+            }),
+        ],
+    );
+}
+
 /// How many entries the doubles get wrong, of the measured map.
 fn wrong_doubles(subject: &Subject) -> usize {
     let hundredths = subject
@@ -549,6 +602,7 @@ fn measure_all() {
     measure_nearest("nearest point, 32 x 64", &measured);
     measure_listing("listing, 32 x 64", of_yardstick(0.3), &measured);
     measure_load("load of a listing, 32 x 64", of_yardstick(1.5), &measured);
+    measure_drag("drag of a retarder, 13 points");
     let (wrong, all) = (wrong_doubles(&measured), measured.entries.len());
     println!("\nEntries of the measured map that doubles get wrong: {wrong} of {all}.");
 }
