@@ -254,8 +254,8 @@ axle_steps_answer axle_steps(const uint16_t sensor[9], uint32_t torque);
    Between two points the drag is linear, rounded up once: never below the exact line,
    less than 1 hundredth above it, and between the drags of the two points.
    Refusals, in this order and all with place 0: 45; 46, for which every reading is
-   looked at, also those that the answer does not need; 47, to which both ends are
-   inside. Below 200 rpm there is no answer. */
+   looked at, also those that the answer does not need; 47: the first and the last
+   point that have a reading are answered. Below 200 rpm there is no answer. */
 axle_drag_answer axle_retarder_drag(const uint32_t *readings, size_t reading_count,
                                     const uint32_t *bearing_losses, size_t bearing_loss_count,
                                     uint32_t ratio, uint32_t speed);

@@ -141,71 +141,107 @@ fn nothing_past_the_reading_limit_changes_the_answer() {
     }
 }
 
+/// Number, place, and what is printed after them.
+const PRINTED: [(u32, usize, &str); 11] = [
+    (
+        9,
+        80,
+        "measured loss under zero (the row's offset)",
+    ),
+    (
+        11,
+        76,
+        "too little room for the answer (the count needed)",
+    ),
+    (
+        2,
+        0,
+        "empty, or not component data (the field's offset)",
+    ),
+    (
+        20,
+        0,
+        "speed outside the axis",
+    ),
+    (
+        30,
+        27,
+        "too little room for the file (the length needed)",
+    ),
+    (
+        40,
+        0,
+        "first line other than speed,torque,loss, or without its line feed",
+    ),
+    (
+        41,
+        18,
+        "line without the form of a row, or without its line feed (the line's offset)",
+    ),
+    (
+        42,
+        45,
+        "row that breaks its run, or runs that make no map (the line's offset, or the text's length)",
+    ),
+    (
+        45,
+        0,
+        "step-up ratio out of range, or not 2 to 13 readings with as many bearing losses",
+    ),
+    (
+        46,
+        0,
+        "bearing loss above its reading, or drag above 100000.00 Nm",
+    ),
+    (
+        47,
+        0,
+        "retarder speed outside the points that have readings",
+    ),
+];
+
+/// The same with an index. No sensor has a number 9.
+const PRINTED_WITH_INDEX: [(u32, usize, usize, &str); 4] = [
+    (
+        31,
+        11,
+        0,
+        "ratio out of range (the number's offset)",
+    ),
+    (
+        32,
+        59,
+        4,
+        "sensor number out of range: number 4 from 0, k, calibration advancement (the number's offset)",
+    ),
+    (
+        32,
+        0,
+        0,
+        "sensor number out of range: number 0 from 0, N, nominal torque",
+    ),
+    (
+        32,
+        0,
+        9,
+        "sensor number out of range",
+    ),
+];
+
 #[test]
 fn refusals_print_by_their_words() {
-    let text = |number, place| refusal(number, place).to_string();
-    assert_eq!(
-        text(9, 80),
-        "refused 9 at 80: measured loss under zero (the row's offset)"
-    );
-    assert_eq!(
-        text(11, 76),
-        "refused 11 at 76: too little room for the answer (the count needed)"
-    );
-    assert_eq!(
-        text(2, 0),
-        "refused 2 at 0: empty, or not component data (the field's offset)"
-    );
-    assert_eq!(text(20, 0), "refused 20 at 0: speed outside the axis");
-    assert_eq!(
-        text(30, 27),
-        "refused 30 at 27: too little room for the file (the length needed)"
-    );
-    assert_eq!(
-        text(40, 0),
-        "refused 40 at 0: first line other than speed,torque,loss, or without its line feed"
-    );
-    assert_eq!(
-        text(41, 18),
-        "refused 41 at 18: line without the form of a row, or without its line feed (the line's offset)"
-    );
-    assert_eq!(
-        text(42, 45),
-        "refused 42 at 45: row that breaks its run, or runs that make no map (the line's offset, or the text's length)"
-    );
-    assert_eq!(
-        text(45, 0),
-        "refused 45 at 0: step-up ratio out of range, or not 2 to 13 readings with as many bearing losses"
-    );
-    assert_eq!(
-        text(46, 0),
-        "refused 46 at 0: bearing loss above its reading, or drag above 100000.00 Nm"
-    );
-    assert_eq!(
-        text(47, 0),
-        "refused 47 at 0: retarder speed outside the points that have readings"
-    );
-    for number in [0, 13, 19, 23, 29, 33, 39, 43, 44, 48, u32::MAX] {
-        assert_eq!(text(number, 5), format!("refused {} at 5", number));
+    for (number, place, words) in PRINTED {
+        let text = refusal(number, place).to_string();
+        assert_eq!(text, format!("refused {number} at {place}: {words}"));
     }
-    let text = |number, place, index| of_number(number, place, index).to_string();
-    assert_eq!(
-        text(31, 11, 0),
-        "refused 31 at 11: ratio out of range (the number's offset)"
-    );
-    assert_eq!(
-        text(32, 59, 4),
-        "refused 32 at 59: sensor number out of range: number 4 from 0, k, calibration advancement (the number's offset)"
-    );
-    assert_eq!(
-        text(32, 0, 0),
-        "refused 32 at 0: sensor number out of range: number 0 from 0, N, nominal torque"
-    );
-    // No sensor has a number 9.
-    assert_eq!(
-        text(32, 0, 9),
-        "refused 32 at 0: sensor number out of range"
-    );
+    for (number, place, index, words) in PRINTED_WITH_INDEX {
+        let text = of_number(number, place, index).to_string();
+        assert_eq!(text, format!("refused {number} at {place}: {words}"));
+    }
+    for number in [0, 13, 19, 23, 29, 33, 39, 43, 44, 48, u32::MAX] {
+        let text = refusal(number, 5).to_string();
+        assert_eq!(text, format!("refused {number} at 5"));
+    }
 }
 
 /// Numbers stand at no offset: of what refuses them the words are told alone.

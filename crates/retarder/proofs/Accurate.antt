@@ -7,7 +7,7 @@ use Rattle.arith.proofs.Quotients.{is_quotient_up}
 use Rattle.arith.proofs.Fractions.{Is, is_whole, is_plus_whole, at_most, below}
 use Rattle.arith.proofs.Rounding.{round_up_natural, round_up_same}
 use Rattle.lookup.specs.Loss.{neighbour}
-use Rattle.retarder.specs.SpeedPoints.{speed_points, speed_point}
+use Rattle.retarder.specs.SpeedPoints.{speed_points, units_per_rpm, speed_point}
 use Rattle.retarder.specs.Drag.{point_drag, exact_drag, drag_at}
 use Rattle.retarder.specs.Laws.{WithinLimits, SpeedWithin, OnSegment, NearLine, DragAccurate}
 use Rattle.retarder.proofs.Segments.{on_neighbour, width, numerator, is_exact, is_point, same_line}
@@ -56,7 +56,7 @@ module _ (readings bearing_losses : List ℕ) (most : length readings ≤ 13) (v
 pub accurate : (readings bearing_losses : List ℕ) (ratio v : ℕ) → WithinLimits readings bearing_losses ratio → SpeedWithin readings v → DragAccurate readings bearing_losses v (drag_at readings bearing_losses v)
 unfolding drag_at
 accurate readings bearing_losses ratio v limits w =
-    let j = neighbour (take (length readings) speed_points) 10000 v in
+    let j = neighbour (take (length readings) speed_points) units_per_rpm v in
     let s = on_neighbour readings limits.count_from limits.count_upto v w in
     let most = limits.count_upto in
     record {

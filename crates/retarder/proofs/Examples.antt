@@ -18,6 +18,11 @@ last_segment : drag_answer (0 ∷ 0 ∷ 0 ∷ 0 ∷ 0 ∷ 0 ∷ 0 ∷ 0 ∷ 0 �
 unfolding drag_answer drag_at exact_drag share neighbour last_up_to every ◌less◌over◌ ◌over◌ whole ◌⊕◌ ◌⊗◌ round_up quotient_up
 last_segment = refl
 
+-- at the last of four speed points
+at_900_rpm : drag_answer (0 ∷ 0 ∷ 0 ∷ 7 ∷ []) (0 ∷ 0 ∷ 0 ∷ 0 ∷ []) 1000 9000 ≡ accepted 7
+unfolding drag_answer drag_at exact_drag share neighbour last_up_to every ◌less◌over◌ ◌over◌ whole ◌⊕◌ ◌⊗◌ round_up quotient_up
+at_900_rpm = refl
+
 -- 199.9998 rpm
 below_the_first_point : drag_answer (1000 ∷ 1500 ∷ []) (100 ∷ 200 ∷ []) 999 2002 ≡ refuse 47 0
 unfolding drag_answer every

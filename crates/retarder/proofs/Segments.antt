@@ -10,7 +10,7 @@ use Rattle.cell.specs.Cell.{lower, upper, share}
 use Rattle.lookup.specs.Loss.{neighbour}
 use Rattle.lookup.proofs.Axes.{Rising, rise_lt, neighbour_in, neighbour_low, neighbour_high}
 use Rattle.lookup.proofs.Lines.{any_two, neighbours, same_is}
-use Rattle.retarder.specs.SpeedPoints.{speed_points, speed_points_rise, speed_point}
+use Rattle.retarder.specs.SpeedPoints.{speed_points, speed_points_rise, units_per_rpm, speed_point}
 use Rattle.retarder.specs.Drag.{point_drag, exact_drag}
 use Rattle.retarder.specs.Laws.{SpeedWithin, OnSegment}
 
@@ -23,7 +23,7 @@ rising = record { two = omega arith; rises = λ k l. rises k (omega (arith, l)) 
 
 -- ---- the segment of a retarder speed
 
--- within the speed points that have a reading, that of the lower neighbour is one
+-- of a retarder speed within the speed points that have a reading, the segment from its lower neighbour has it
 module _ (readings : List ℕ) (two : 2 ≤ length readings) (most : length readings ≤ 13) where
   counted : length (take (length readings) speed_points) ≡ length readings
   counted = length-take-le (length readings) speed_points most
@@ -40,16 +40,16 @@ module _ (readings : List ℕ) (two : 2 ≤ length readings) (most : length read
         rw (of_first k g, of_first (k + 1) h) (rises k (omega arith));
   }
 
-  pub on_neighbour : (v : ℕ) → SpeedWithin readings v → OnSegment readings v (neighbour (take (length readings) speed_points) 10000 v)
+  pub on_neighbour : (v : ℕ) → SpeedWithin readings v → OnSegment readings v (neighbour (take (length readings) speed_points) units_per_rpm v)
   on_neighbour v w =
       let ns = take (length readings) speed_points in
-      let i = neighbour ns 10000 v in
-      let h : i + 1 < length readings = omega (arith, neighbour_in ns 10000 v first_rising, counted) in
+      let i = neighbour ns units_per_rpm v in
+      let h : i + 1 < length readings = omega (arith, neighbour_in ns units_per_rpm v first_rising, counted) in
       let g : i < length readings = omega arith in
       record {
         readings_there = h;
-        from = rw (← of_first i g) (neighbour_low ns 10000 v first_rising (rw (of_first 0 (omega arith)) w.from));
-        upto = rw (← of_first (i + 1) h) (neighbour_high ns 10000 v first_rising (rw (counted, of_first (length readings - 1) (omega arith)) w.upto));
+        from = rw (← of_first i g) (neighbour_low ns units_per_rpm v first_rising (rw (of_first 0 (omega arith)) w.from));
+        upto = rw (← of_first (i + 1) h) (neighbour_high ns units_per_rpm v first_rising (rw (counted, of_first (length readings - 1) (omega arith)) w.upto));
       }
 
 -- ---- the exact drag, by its numbers
@@ -71,7 +71,7 @@ module _ (readings bearing_losses : List ℕ) (most : length readings ≤ 13) (v
   abbrev d : ℕ → ℕ
   d = point_drag readings bearing_losses
 
-  -- what the exact drag is over that
+  -- the numerator of the exact drag, over that length
   abbrev pub numerator : ℕ → ℕ
   numerator i = (speed_point (i + 1) - v) * d i + (v - speed_point i) * d (i + 1)
 
@@ -114,6 +114,6 @@ module _ (readings bearing_losses : List ℕ) (most : length readings ≤ 13) (v
   same_line =
       any_two (λ i. exact_drag readings bearing_losses v i) (λ i. OnSegment readings v i)
       (λ i j l a b.
-      let n = neighbours speed_points rising 10000 v (omega arith) i j (omega (arith, b.readings_there)) a.upto b.from l in
+      let n = neighbours speed_points rising units_per_rpm v (omega arith) i j (omega (arith, b.readings_there)) a.upto b.from l in
       let e : v ≡ speed_point j = rw n.0 n.1 in
       same_is (is_upper i a n.1) (rw (← n.0) (is_lower j b e)))

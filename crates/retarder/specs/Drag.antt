@@ -11,7 +11,7 @@ use Rattle.retarder.specs.SpeedPoints.{speed_points, units_per_rpm, speed_point}
 abbrev pub retarder_speed : (ratio speed : ℕ) → ℕ
 retarder_speed ratio speed = speed * ratio
 
--- the limits of the ratio and of the count, and "unequal in number": where this does not hold it is 45
+-- the ratio and the count are within their limits, and readings and bearing losses not "unequal in number": where this does not hold it is 45
 abbrev pub within_limits : (readings bearing_losses : List ℕ) (ratio : ℕ) → Bool
 within_limits readings bearing_losses ratio =
     (leb 100 ratio && leb ratio 10000)

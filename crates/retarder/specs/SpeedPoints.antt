@@ -1,4 +1,4 @@
--- Source document 002, 5.1.6.2.1: the speed points of a retarder that is tested as a stand-alone unit.
+-- Document 02, C-17, with source document 002, 5.1.6.2.1: the speed points of a retarder that is tested as a stand-alone unit.
 use Rattle.std.specs.Prelude.{ℕ, ◌+◌, ◌*◌, true, List, [], ◌∷◌, ◌≡◌, refl, ltb, get_or}
 use Rattle.grid.specs.Every.{every}
 

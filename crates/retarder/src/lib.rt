@@ -117,7 +117,7 @@ fn drag_on(readings: &[u32], bearing_losses: &[u32], v: u64, i: usize) -> u32
     let y = speed_point(i + 1);
     let lower = weighted(y - v, point_drag(readings, bearing_losses, i));
     let upper = weighted(v - x, point_drag(readings, bearing_losses, i + 1));
-    // fits: it is at most the larger of the two drags
+    // in 32 bits: it is at most the larger of the two drags
     arith::quotient_up(lower + upper, y - x) as u32
 }
 

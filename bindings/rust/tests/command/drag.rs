@@ -99,7 +99,7 @@ fn numbers_that_cannot_be_read() {
     let message = |name: &str, text: &str, form: &str, place: &str| {
         format!("axle: {name} {text:?} is not allowed: a {form} after the point{place}\n")
     };
-    let ratio = "number without a sign, at most three digits";
+    let ratio = "step-up ratio without a sign, at most three digits";
     let speed = "number in rpm without a sign, at most one digit";
     let torque = "number in Nm without a sign, at most two digits";
     for text in [
@@ -150,7 +150,7 @@ fn what_is_told_first() {
 /// None is taken for a smaller one: a reading less its bearing loss would be another drag.
 #[test]
 fn numbers_beyond_the_library() {
-    let message = "axle: RATIO \"4294967.296\" is too large for a number\n";
+    let message = "axle: RATIO \"4294967.296\" is too large for a step-up ratio\n";
     assert_failed(asked("4294967.296", "200"), 2, message);
     let message = "axle: SPEED \"429496729.6\" is too large for a number in rpm\n";
     assert_failed(asked("1", "429496729.6"), 2, message);

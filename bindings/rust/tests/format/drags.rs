@@ -69,6 +69,13 @@ fn the_example_is_the_answer() {
     assert_eq!(answer, Ok(last(5)));
     let speed = 1_333 * 2_000;
     assert_eq!(last(2), speed);
+    assert_eq!(rows[3][2], "666,000 / 2,000,000");
+    assert_eq!(
+        (speed - 2_000_000, 4_000_000 - 2_000_000),
+        (666_000, 2_000_000)
+    );
+    assert_eq!(rows[4][2], "900 + 133.2 = 1,033.2");
+    assert_eq!((drags[1] - drags[0]) * 666_000 * 10 / 2_000_000, 1_332);
     let words = "1.333, and the propeller shaft turns with 200.0 rpm";
     assert!(page().contains(words));
 }

@@ -238,8 +238,8 @@ fn steps(arguments: &[OsString]) -> Result<Vec<u8>, Failure> {
     Ok(lines.into_bytes())
 }
 
-/// A number that is too large for the library is a failure, as in a question. The largest that it takes
-/// does not stand in for it: a reading less its bearing loss would be another drag.
+/// A number that is too large for the library is a failure, as in a question: a reading or a bearing loss cut
+/// to the largest that it takes would be another drag.
 fn drag(arguments: &[OsString]) -> Result<Vec<u8>, Failure> {
     let ratio = RATIO.number(&arguments[0])?;
     let speed = SPEED.number(&arguments[1])?;

@@ -47,9 +47,9 @@ Below the map's first torque a loss follows the line of the first two torques an
 may be negative. The nearest point is the lower one of two that are equally near, and
 the end of the axis for a point outside it. Steps are printed a line each: a, b, g, h
 and U, each with its grains, of which 100 are 0.01 Nm. A refused line of a listing is
-told with its number, counted from 1, the header's. A drag is refused where the
-retarder's speed, SPEED times RATIO, is below 200 rpm or above the last point that has a
-reading.
+told with its number, counted from 1, the header's. A drag is refused also where
+the retarder's speed, SPEED times RATIO, is below 200 rpm or above the last point that
+has a reading.
 
 Answers go to standard output, refusals and failures to standard error.
 Status 0: answered. Status 1: the data, the listing, the numbers or the question is

@@ -28,7 +28,7 @@ pub const TORQUE: Quantity = Quantity {
 /// A retarder's step-up ratio, in thousandths.
 pub const RATIO: Quantity = Quantity {
     name: "RATIO",
-    form: "number",
+    form: "step-up ratio",
     digits: 3,
 };
 
