@@ -5,6 +5,7 @@ use Rattle.refusal.proofs.Numbers.{number_between}
 use Rattle.refusal.specs.declared.Refusal.{Refusal}
 use Rattle.retarder.specs.Drag.{retarder_speed, drag_answer}
 use Rattle.retarder.specs.Laws.{DragAccurate}
+use Rattle.retarder.proofs.Accurate.{drag_unique}
 use Rattle.axle.specs.Interface.{drag_of}
 use Rattle.axle.specs.Drag.{DragForC}
 use Rattle.axle.specs.declared.AxleDrag.{AxleDrag}
@@ -17,3 +18,8 @@ module _ (readings bearing_losses : List ℕ) (ratio speed : ℕ) where
     answer = rw (← answer) same;
     accurate = λ none. absurd (omega (arith, (number_between x).0, rw same at none));
   }
+
+-- the promise that it is near the exact line leaves one drag, whatever else is promised
+pub drag_unique_for_c : {readings bearing_losses : List ℕ} {ratio speed : ℕ} {a b : AxleDrag} → DragForC readings bearing_losses ratio speed a → DragForC readings bearing_losses ratio speed b
+    → a.refusal ≡ 0 → b.refusal ≡ 0 → a.drag ≡ b.drag
+drag_unique_for_c p q a_is b_is = drag_unique (p.accurate a_is) (q.accurate b_is)

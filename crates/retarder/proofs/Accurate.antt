@@ -1,11 +1,12 @@
 -- The drag is near the exact line of every segment that has the retarder speed. Assumes nothing.
-use Rattle.std.proofs.Common.{◌≡◌, ℕ, ◌+◌, ◌*◌, ◌≤◌, ◌<◌, List, length, min, max, take, ap, sym, ◌∙◌, arith}
+use Rattle.std.proofs.Common.{◌≡◌, ℕ, ◌+◌, ◌*◌, ◌≤◌, ◌<◌, List, length, min, max, take, ap, sym, ◌∙◌, pos, arith}
 use native.Mathlib.Nat.{mul-le-mul_left, le_of_mul-le-mul_right}
 use Rattle.arith.specs.Quotient.{quotient_up, QuotientUp, quotient_up_law, quotient_up_least}
 use Rattle.arith.specs.Fraction.{round_up}
 use Rattle.arith.proofs.Quotients.{is_quotient_up}
-use Rattle.arith.proofs.Fractions.{Is, is_whole, is_plus_whole, at_most, below}
-use Rattle.arith.proofs.Rounding.{round_up_natural, round_up_same}
+use Rattle.arith.proofs.Fractions.{Is, is_whole, at_most}
+use Rattle.arith.proofs.Rounding.{round_up_natural, round_up_rounds, round_up_same}
+use Rattle.cell.proofs.Rounding.{rounds_up_unique}
 use Rattle.lookup.specs.Loss.{neighbour}
 use Rattle.retarder.specs.SpeedPoints.{speed_points, units_per_rpm, speed_point}
 use Rattle.retarder.specs.Drag.{point_drag, exact_drag, drag_at}
@@ -39,8 +40,7 @@ module _ (readings bearing_losses : List ℕ) (most : length readings ≤ 13) (v
       let q = round_up (exact_drag readings bearing_losses v i) in
       let b = between _ _ (point_drag readings bearing_losses i) (point_drag readings bearing_losses (i + 1)) q _ (omega (arith, s.from, s.upto)) exact.pos law in
       record {
-        never_below = at_most exact (is_whole q) (omega (arith, law.not_below));
-        near = below (is_whole q) (is_plus_whole 1 exact) (omega (arith, law.near));
+        rounded_up = round_up_rounds _ (at_most (is_whole 0) exact (omega arith));
         least = b.0;
         most = b.1;
       }
@@ -65,3 +65,13 @@ accurate readings bearing_losses ratio v limits w =
       same_line = same_line readings bearing_losses most v;
       on_point = λ k l e. rounded_point readings bearing_losses most v j s k l e;
     }
+
+-- and the law leaves one answer, whatever else is promised
+same_number : (a b : ℕ) → pos a ≡ pos b → a ≡ b
+same_number a b e = cc
+
+pub drag_unique : {readings bearing_losses : List ℕ} {v a b : ℕ} → DragAccurate readings bearing_losses v a → DragAccurate readings bearing_losses v b → a ≡ b
+drag_unique {a = a} {b = b} p q =
+    let i = p.on_one.0 in
+    let s = p.on_one.1 in
+    same_number a b (rounds_up_unique _ (pos a) (pos b) (p.near_each i s).rounded_up (q.near_each i s).rounded_up)

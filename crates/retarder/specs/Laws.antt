@@ -1,6 +1,6 @@
 -- Document 02, C-17, as laws: when there is a drag, and how near it is to the exact line.
-use Rattle.std.specs.Prelude.{ℕ, ◌+◌, ◌-◌, ◌≤◌, ◌<◌, ◌≡◌, List, length, min, max, get_or}
-use Rattle.arith.specs.Fraction.{whole, ◌⊕◌, ◌≼◌, ◌≺◌, Same}
+use Rattle.std.specs.Prelude.{ℕ, ◌+◌, ◌-◌, ◌≤◌, ◌<◌, ◌≡◌, List, pos, length, min, max, get_or}
+use Rattle.arith.specs.Fraction.{RoundsUp, Same}
 use Rattle.refusal.specs.Outcome.{Told, refusal, accepted, refused}
 use Rattle.retarder.specs.SpeedPoints.{speed_point}
 use Rattle.retarder.specs.Drag.{retarder_speed, point_drag, exact_drag, drag_at, drag_answer}
@@ -30,10 +30,9 @@ pub record OnSegment (readings : List ℕ) (v i : ℕ) : Type 0 where
   pub upto : v ≤ speed_point (i + 1)
 
 module _ (readings bearing_losses : List ℕ) where
-  -- "never below the exact line" and "less than 0.01 Nm above", and between the drags at the two ends of the segment
+  -- the answer is the exact drag rounded up, "never below the exact line" and "less than 0.01 Nm above", and between the drags at the two ends of the segment
   pub record NearLine (v i answer : ℕ) : Type 0 where
-    pub never_below : exact_drag readings bearing_losses v i ≼ whole answer
-    pub near : whole answer ≺ exact_drag readings bearing_losses v i ⊕ whole 1
+    pub rounded_up : RoundsUp (exact_drag readings bearing_losses v i) (pos answer)
     pub least : min (point_drag readings bearing_losses i) (point_drag readings bearing_losses (i + 1)) ≤ answer
     pub most : answer ≤ max (point_drag readings bearing_losses i) (point_drag readings bearing_losses (i + 1))
 

@@ -25,14 +25,18 @@ fn of_two(ratio: u32, speed: u32) -> Result<u32, Refusal> {
 #[test]
 fn the_speed_is_the_product_and_is_not_rounded() {
     assert_eq!(of_two(1_500, 2_000), Ok(1_100));
+    // 266.6 rpm: 5,166 / 5.
     assert_eq!(of_two(1_333, 2_000), Ok(1_034));
-    // 199.9998 rpm would be 200.0 in tenths, 200.0002 rpm too.
+    assert_eq!(of_two(1_000, 2_000), Ok(900));
+    // 199.9998 rpm would be 200.0 in tenths, 200.0002 rpm too; and 199.9999 rpm.
     assert_eq!(of_two(999, 2_002), refused(47, 0));
     assert_eq!(of_two(101, 19_802), Ok(901));
-    // 400.0 and 400.1 rpm; 399.9999 rpm.
+    assert_eq!(of_two(1_207, 1_657), refused(47, 0));
+    // 400.0 and 400.1 rpm; 399.9999 rpm; the largest speed.
     assert_eq!(of_two(1_000, 4_000), Ok(1_300));
     assert_eq!(of_two(1_000, 4_001), refused(47, 0));
     assert_eq!(of_two(1_999, 2_001), Ok(1_300));
+    assert_eq!(of_two(10_000, u32::MAX), refused(47, 0));
 }
 
 #[test]
@@ -51,17 +55,49 @@ fn a_falling_drag_is_rounded_up() {
     assert_eq!(drag(2_999), Ok(1_251));
 }
 
-/// The points are cut to the count of readings.
+/// The points are cut to the count of readings; at one that two segments share it is the drag measured there.
 #[test]
-fn tables_of_each_count() {
-    let readings: Vec<u32> = (1..=13).map(|index| 100 * index).collect();
+fn all_points_of_tables_of_each_count() {
+    let readings: Vec<u32> = (0..13).map(|index| 7 * index * index + 3).collect();
     for count in 2..=13 {
-        let bearing_losses = vec![1; count];
+        let bearing_losses = vec![2; count];
         let at = |speed| drag(&readings[..count], &bearing_losses, 100, 100 * speed);
-        assert_eq!(at(200), Ok(99));
-        assert_eq!(at(POINTS[count - 1]), Ok(readings[count - 1] - 1));
+        for (index, point) in POINTS.into_iter().enumerate() {
+            let due = if index < count {
+                Ok(readings[index] - 2)
+            } else {
+                refused(47, 0)
+            };
+            assert_eq!(at(point), due, "{count} points at {point} rpm");
+        }
         assert_eq!(at(POINTS[count - 1] + 1), refused(47, 0));
     }
+}
+
+#[test]
+fn the_first_refusal_is_told() {
+    let with = |ratio| drag(&[10, 10], &[11, 0], ratio, 0);
+    assert_eq!(with(99), refused(45, 0));
+    assert_eq!(with(100), refused(46, 0));
+    assert_eq!(with(10_000), refused(46, 0));
+    assert_eq!(with(10_001), refused(45, 0));
+    assert_eq!(drag(&[10], &[11], 1_000, 0), refused(45, 0));
+    assert_eq!(drag(&[10; 14], &[11; 14], 1_000, 0), refused(45, 0));
+    assert_eq!(drag(&[10; 3], &[11; 2], 1_000, 0), refused(45, 0));
+    assert_eq!(drag(&[10; 2], &[11; 3], 1_000, 0), refused(45, 0));
+    assert_eq!(drag(&[], &[], 1_000, 0), refused(45, 0));
+}
+
+#[test]
+fn drags_at_their_limits() {
+    let first = |reading, bearing_loss| drag(&[reading, 0], &[bearing_loss, 0], 1_000, 2_000);
+    assert_eq!(first(10_000_001, 1), Ok(10_000_000));
+    assert_eq!(first(10_000_001, 0), refused(46, 0));
+    assert_eq!(first(u32::MAX, u32::MAX), Ok(0));
+    // A reading that the speed does not need.
+    let third = |reading| drag(&[0, 0, reading], &[0; 3], 1_000, 2_000);
+    assert_eq!(third(10_000_000), Ok(0));
+    assert_eq!(third(10_000_001), refused(46, 0));
 }
 
 /// The number of the refusal that is due, or else the least drag that reaches the exact one.
