@@ -1,7 +1,8 @@
-/* Axle loss maps: the library for C, libaxle.a (x86-64).
+/* Axle loss maps: the library for C, libaxle.a (x86-64-v2).
 
    Link with: gcc -Iinclude program.c target/staticlib/libaxle.a
-   `tools/static-library axle` proves the library and writes it.
+   `tools/static-library axle` proves the library and writes it. x86-64-v2 are the
+   processors with SSE4.2 and POPCNT: of Intel from about 2009 on, of AMD from 2011.
 
    Units. On an axis a speed is in whole rpm and a torque in whole Nm, both at
    the wheel. Entries, losses and measured torques: hundredths of Nm. A question's
@@ -20,7 +21,9 @@
    (below), and `place` its place. Of a build, of a write and of the steps of a
    sensor, `has_index` is 1 where the refusal also says which number of its field it
    was, and `index` is that number, from 0; else both are 0. Test `has_index`: index
-   0 is the first number of a field. Values stand apart from them, and a loss may be
+   0 is the first number of a field. Of the losses at many points, `has_point` is 1
+   where the refusal is of a point (20, 21), and `point` says which, from 0; else both
+   are 0. Test `has_point` likewise. Values stand apart from them, and a loss may be
    negative: test `refusal`, not the value. The values of a refused answer are 0; the
    axes of a refused build or load have the counts 0, and their numbers mean nothing.
 
@@ -50,8 +53,8 @@
        torque: the number's offset, for 8 of kind 3 the left torque's
      9 a measured loss that is negative; 10 an entry above 10,000,000 hundredths
        of Nm: the row's offset
-     11 fewer entries lent than the map has, or a lent buffer too short for a
-       listing: how many are needed
+     11 fewer entries lent than the map has, fewer losses lent than there are points,
+       or a lent buffer too short for a listing: how many are needed
      12 data that goes on past the last field: the next byte's offset
      20 a speed below or above its axis; 21 a torque above its axis: 0
      22 what is lent is no map: 0
@@ -113,6 +116,20 @@ typedef struct {
     size_t place;
     int64_t loss; /* hundredths of Nm; may be negative below the first torque */
 } axle_loss_answer;
+
+/* A point of a map that is asked. */
+typedef struct {
+    uint32_t speed;  /* tenths of rpm */
+    uint32_t torque; /* hundredths of Nm */
+} axle_point;
+
+/* The losses themselves are written to what is lent for them. */
+typedef struct {
+    uint32_t refusal;
+    uint32_t has_point;
+    size_t place;
+    size_t point;
+} axle_losses_answer;
 
 typedef struct {
     uint32_t refusal;
@@ -205,6 +222,20 @@ axle_loss_answer axle_loss(const uint16_t speeds[32], size_t speed_count,
                            const uint16_t torques[64], size_t torque_count,
                            const uint32_t *entries, size_t entry_count,
                            uint32_t speed, uint32_t torque);
+
+/* The losses at many points of a map, which is tested once. The loss of points[i] is
+   written to losses[i], in hundredths of Nm. It is exactly the one that axle_loss answers
+   for the point: as near to the exact loss, and negative or not. What stands past the
+   first point_count losses is not touched, and a refused call writes nothing. Without
+   points the call is answered, and nothing is written.
+   Refusals, in this order: 22; 11 where loss_count is below point_count, the count
+   needed; then point by point 20 and 21, each with place 0: the first that is met is
+   told, with its point. */
+axle_losses_answer axle_losses(const uint16_t speeds[32], size_t speed_count,
+                               const uint16_t torques[64], size_t torque_count,
+                               const uint32_t *entries, size_t entry_count,
+                               const axle_point *points, size_t point_count,
+                               int64_t *losses, size_t loss_count);
 
 /* The nearest speed and the nearest torque of the axes, the lower one where two
    are equally near. Refusal 22, for the axes alone. */

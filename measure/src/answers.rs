@@ -1,6 +1,6 @@
 //! The answers of the library `axle` to the generated cases, as the text that the second implementation writes for them.
 
-use axle::{Grid, Numbers, Refusal, Sensor};
+use axle::{Grid, LossesRefusal, Numbers, Point, Refusal, Sensor};
 use reference::cases::Case;
 use reference::component;
 use reference::lookup::{Axis, LentMap};
@@ -11,9 +11,10 @@ use reference::retarder::RetarderNumbers;
 use reference::writer::HandedNumbers;
 use std::fmt::Write;
 
-/// What entries and bytes hold before they are lent.
+/// What entries, bytes and losses hold before they are lent.
 const LENT_ENTRY: u32 = 0xA5A5_A5A5;
 const LENT_BYTE: u8 = 0xA5;
+const LENT_LOSS: i64 = 0xA5A5_A5A5;
 
 /// Buffers that are lent again for each case.
 pub struct Lent {
@@ -45,15 +46,26 @@ fn kept_past(name: &str, bytes: &mut [u8], length: usize) -> String {
 }
 
 fn refused(refusal: Refusal) -> String {
+    refusal_line(refusal) + "\n"
+}
+
+/// A refusal's line, without its line feed.
+fn refusal_line(refusal: Refusal) -> String {
     let Refusal {
         number,
         place,
         index,
     } = refusal;
     match index {
-        Some(index) => format!("refused {number} at {place} number {index}\n"),
-        None => format!("refused {number} at {place}\n"),
+        Some(index) => format!("refused {number} at {place} number {index}"),
+        None => format!("refused {number} at {place}"),
     }
+}
+
+/// The point comes last, where there is one.
+fn losses_refused(LossesRefusal { refusal, point }: LossesRefusal) -> String {
+    let point = point.map(|point| format!(" point {point}"));
+    format!("{}{}\n", refusal_line(refusal), point.unwrap_or_default())
 }
 
 /// The case's answer; data that is to be read or reported is built.
@@ -80,6 +92,11 @@ pub fn answer(case: &Case, lent: &mut Lent) -> Vec<u8> {
         Case::Steps { sensor, torque } => steps_answer(*sensor, *torque).into_bytes(),
         Case::Load { text, entries } => load_answer(text, *entries, lent).into_bytes(),
         Case::Drag(numbers) => drag_answer(numbers).into_bytes(),
+        Case::Losses {
+            map,
+            room,
+            questions,
+        } => losses_answer(map, *room, questions).into_bytes(),
         Case::Read(data) | Case::Program(data) => build_answer(data, 2_048, 65_536, &[], lent),
     }
 }
@@ -226,6 +243,25 @@ fn drag_answer(numbers: &RetarderNumbers) -> String {
     let (readings, bearing_losses) = (&numbers.readings, &numbers.bearing_losses);
     axle::retarder_drag(readings, bearing_losses, numbers.ratio, numbers.speed)
         .map_or_else(refused, drag_line)
+}
+
+/// The losses at all points in one call, in as many places as are lent of a buffer that has one more.
+fn losses_answer(map: &LentMap, room: usize, questions: &[Question]) -> String {
+    let points: Vec<Point> = questions
+        .iter()
+        .map(|&Question { speed, torque }| Point { speed, torque })
+        .collect();
+    let mut losses = vec![LENT_LOSS; room + 1];
+    let (mut lines, written) =
+        match axle::losses(&grid_of(map), &map.entries, &points, &mut losses[..room]) {
+            Ok(()) => (format!("answered {}\n", points.len()), points.len()),
+            Err(refused) => (losses_refused(refused), 0),
+        };
+    let (answered, rest) = losses.split_at(written);
+    for loss in answered {
+        let _ = writeln!(lines, "loss {loss}");
+    }
+    lines + &kept("losses", rest.iter().all(|loss| *loss == LENT_LOSS))
 }
 
 /// The places of an axis in an array.

@@ -1,6 +1,6 @@
 //! The same rule in doubles, as a spreadsheet reckons it: every step of the rule has its cell, with its rounding, and a row's tests are columns beside it. Most answers are those of the rule; where a step comes out a little above or below a whole number they are not, which is why the library reckons in whole numbers.
 
-use crate::plain::{read, Component, LINES};
+use crate::plain::{Component, LINES};
 use std::io::Write;
 
 /// The nine numbers of a sensor.
@@ -92,7 +92,7 @@ fn measured_entries<const OUTPUTS: usize>(
     let input = sensor(1 + OUTPUTS);
     let outputs: [Sensor; OUTPUTS] = std::array::from_fn(|index| sensor(OUTPUTS - index));
     let ratio = component.ratio as f64 / 1e3;
-    let torques = &component.torques;
+    let torques = component.torques();
     for (index, row) in component.rows.chunks_exact(4 + 4 * OUTPUTS).enumerate() {
         let torque = f64::from(torques[index % torques.len()]);
         entries.push(measured_entry(ratio, &input, &outputs, torque, row)?);
@@ -103,9 +103,9 @@ fn measured_entries<const OUTPUTS: usize>(
 /// The entries of valid data, in Nm.
 #[inline(never)]
 pub fn build(data: &[u8]) -> Option<Vec<f64>> {
-    let component = read(data)?;
-    let torques = &component.torques;
-    let mut entries = Vec::with_capacity(component.speeds.len() * torques.len());
+    let component = Component::read(data)?;
+    let torques = component.torques();
+    let mut entries = Vec::with_capacity(component.speeds().len() * torques.len());
     match component.kind {
         2 => measured_entries::<1>(data, &component, &mut entries)?,
         3 => measured_entries::<2>(data, &component, &mut entries)?,
@@ -113,7 +113,7 @@ pub fn build(data: &[u8]) -> Option<Vec<f64>> {
             let ratio = component.ratio as f64 / 1e3;
             let (efficiency, drag) = LINES[usize::from(component.line) - 1];
             let (efficiency, drag) = (efficiency as f64, drag as f64);
-            for _ in &component.speeds {
+            for _ in component.speeds() {
                 for torque in torques {
                     let loss = drag
                         + 20.0 * ratio
@@ -126,25 +126,50 @@ pub fn build(data: &[u8]) -> Option<Vec<f64>> {
     Some(entries)
 }
 
-fn cell(axis: &[u16], number: f64) -> usize {
-    axis[1..axis.len() - 1]
-        .iter()
-        .take_while(|n| f64::from(**n) <= number)
-        .count()
+/// Where the lower of a number's neighbours is in the axis. On long axes the search is quicker than to count without branches.
+#[inline(always)]
+fn lower_neighbour(axis: &[f64], number: f64) -> usize {
+    axis[1..axis.len() - 1].partition_point(|inner| *inner <= number)
 }
 
-/// The loss in Nm at a speed in rpm and a torque in Nm.
-#[inline(never)]
-pub fn loss(speeds: &[u16], torques: &[u16], entries: &[f64], speed: f64, torque: f64) -> f64 {
-    let (i, j) = (cell(speeds, speed), cell(torques, torque));
-    let share = |axis: &[u16], i: usize, number: f64| {
-        let (lower, upper) = (f64::from(axis[i]), f64::from(axis[i + 1]));
-        (number - lower) / (upper - lower)
+/// Linear in torque and in speed between the four entries around the point. Nothing is tested, and nothing rounded.
+#[inline(always)]
+fn interpolated(
+    speeds: &[f64],
+    torques: &[f64],
+    entries: &[f64],
+    (speed, torque): (f64, f64),
+) -> f64 {
+    let i = lower_neighbour(speeds, speed);
+    let j = lower_neighbour(torques, torque);
+    let x = (speed - speeds[i]) / (speeds[i + 1] - speeds[i]);
+    let y = (torque - torques[j]) / (torques[j + 1] - torques[j]);
+    let line = |i: usize| {
+        let corners = &entries[i * torques.len() + j..][..2];
+        corners[0] + y * (corners[1] - corners[0])
     };
-    let (x, y) = (share(speeds, i, speed), share(torques, j, torque));
-    let corner = |i: usize, j: usize| entries[i * torques.len() + j];
-    let line = |i: usize| corner(i, j) * (1.0 - y) + corner(i, j + 1) * y;
-    hundredths_up(line(i) * (1.0 - x) + line(i + 1) * x)
+    let (lower, upper) = (line(i), line(i + 1));
+    lower + x * (upper - lower)
+}
+
+/// The loss in Nm at a speed in rpm and a torque in Nm, as a simulation has it today.
+#[inline(never)]
+pub fn bilinear(speeds: &[f64], torques: &[f64], entries: &[f64], point: (f64, f64)) -> f64 {
+    interpolated(speeds, torques, entries, point)
+}
+
+/// The losses at many points in one call.
+#[inline(never)]
+pub fn bilinear_at_all(
+    speeds: &[f64],
+    torques: &[f64],
+    entries: &[f64],
+    points: &[(f64, f64)],
+    losses: &mut [f64],
+) {
+    for (loss, point) in losses.iter_mut().zip(points) {
+        *loss = interpolated(speeds, torques, entries, *point);
+    }
 }
 
 fn nearest_number(axis: &[u16], number: f64) -> f64 {

@@ -41,6 +41,12 @@ pub enum Case {
     Load { text: Vec<u8>, entries: usize },
     /// The drag of a retarder, asked for its numbers.
     Drag(RetarderNumbers),
+    /// A lent map asked at most 255 questions in one call, with room for so many losses, at most 256.
+    Losses {
+        map: LentMap,
+        room: usize,
+        questions: Vec<Question>,
+    },
 }
 
 impl Case {
@@ -54,6 +60,7 @@ impl Case {
             Case::Steps { .. } => 's',
             Case::Load { .. } => 'l',
             Case::Drag(_) => 'd',
+            Case::Losses { .. } => 'a',
         }
     }
 
@@ -78,6 +85,11 @@ impl Case {
                 questions,
             } => (*entries, *room, data.clone(), questions),
             Case::Map {
+                map,
+                room,
+                questions,
+            }
+            | Case::Losses {
                 map,
                 room,
                 questions,

@@ -40,6 +40,12 @@ pub fn valid_map(source: &mut Source) -> LentMap {
 /// A map with one rule broken.
 pub fn broken_map(source: &mut Source, way: u64) -> LentMap {
     let mut map = valid_map(source);
+    break_rule(source, &mut map, way);
+    map
+}
+
+/// Breaks one rule of a map with 32 and 64 places that keeps them all.
+pub fn break_rule(source: &mut Source, map: &mut LentMap, way: u64) {
     let (speed_count, torque_count) = (map.speeds.count, map.torques.count);
     let speed = source.index(speed_count);
     let torque = source.index(torque_count);
@@ -59,7 +65,6 @@ pub fn broken_map(source: &mut Source, way: u64) -> LentMap {
         10 => map.entries[entry] = LARGEST_ENTRY as u32 + 1,
         _ => map.entries[entry] = source.one_of(&[10_000_001, 16_777_216, u32::MAX]),
     }
-    map
 }
 
 pub const BREAKS: u64 = 12;

@@ -3,7 +3,7 @@
 //! allowance at the input, C-14, which number was refused, C-15, the steps of a
 //! sensor's uncertainty, C-16, a listing taken in, and C-17, retarder drag, of document
 //! 02; written from these papers alone. It renders the whole of them, for checks by
-//! running.
+//! running. Many questions to one map in one call are in it, too.
 //! Beside it: traces of single numbers; a generator of component data and
 //! questions, and what it takes to compare the answers with those of the proved
 //! libraries; cases whose exact entries are printed; and the examples.
@@ -43,6 +43,8 @@ pub mod load_faults;
 pub mod load_pairs;
 pub mod load_tally;
 pub mod load_texts;
+pub mod losses_cases;
+pub mod losses_tally;
 pub mod numbers_text;
 pub mod questions;
 pub mod random;

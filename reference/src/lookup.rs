@@ -1,8 +1,10 @@
-//! Document 01, "Loss at a point and nearest point", with refusals 22, 20, 21.
+//! Document 01, "Loss at a point and nearest point", with refusals 22, 20, 21; and
+//! many questions to one map in one call, with refusal 11 between 22 and 20.
 
 use crate::component::{first_torque_allowed, AxisRule, SPEED_RULE, TORQUE_RULE};
 use crate::map::{entry_index, Map, LARGEST_ENTRY};
 use crate::refusal::Refusal;
+use std::fmt;
 
 /// Query speed is in tenths of rpm, an axis speed in rpm.
 const SPEED_UNIT: i128 = 10;
@@ -29,7 +31,7 @@ impl Axis {
 }
 
 /// What a caller lends as a map. Nothing is known of it until it is tested.
-#[derive(Clone, PartialEq, Eq, Debug)]
+#[derive(Clone, PartialEq, Eq, Hash, Debug)]
 pub struct LentMap {
     pub speeds: Axis,
     pub torques: Axis,
@@ -224,6 +226,71 @@ pub fn point_steps(map: &LentMap, speed: u32, torque: u32) -> Result<PointSteps,
 /// hundredths of Nm.
 pub fn loss(map: &LentMap, speed: u32, torque: u32) -> Result<i128, Refusal> {
     point_steps(map, speed, torque).map(|steps| steps.answer())
+}
+
+/// A point whose loss is asked: speed in tenths of rpm, torque in hundredths of Nm.
+#[derive(Clone, Copy, PartialEq, Eq, Hash, Debug)]
+pub struct Question {
+    pub speed: u32,
+    pub torque: u32,
+}
+
+/// The refusal of many questions in one call.
+#[derive(Clone, Copy, PartialEq, Eq, Debug)]
+pub struct LossesRefusal {
+    pub refusal: Refusal,
+    /// Which question was refused, from 0: of 20 and 21 alone.
+    pub point: Option<usize>,
+}
+
+/// A refusal of the whole call: 22 or 11.
+impl From<Refusal> for LossesRefusal {
+    fn from(refusal: Refusal) -> LossesRefusal {
+        LossesRefusal {
+            refusal,
+            point: None,
+        }
+    }
+}
+
+/// The line of a stored answer, without its line feed.
+impl fmt::Display for LossesRefusal {
+    fn fmt(&self, f: &mut fmt::Formatter) -> fmt::Result {
+        match self.point {
+            Some(point) => write!(f, "{} point {point}", self.refusal),
+            None => self.refusal.fmt(f),
+        }
+    }
+}
+
+/// The losses of many questions, in hundredths of Nm, in the first places of the
+/// room and in the order of the questions; the answer is how many there are, and
+/// what is past them is not touched. Refused with 22, then with 11 where the room
+/// has fewer places than there are questions, then with the first 20 or 21 of the
+/// questions in their order. A refusal writes nothing.
+pub fn losses(
+    map: &LentMap,
+    questions: &[Question],
+    room: &mut [i128],
+) -> Result<usize, LossesRefusal> {
+    test_map(map)?;
+    let needed = questions.len();
+    let answered = room.get_mut(..needed).ok_or(Refusal::at(11, needed))?;
+    let losses: Vec<i128> = questions
+        .iter()
+        .enumerate()
+        .map(|(index, question)| loss_of(map, question, index))
+        .collect::<Result<_, _>>()?;
+    answered.copy_from_slice(&losses);
+    Ok(needed)
+}
+
+/// The loss that a single question gives, refused with its index among others.
+fn loss_of(map: &LentMap, question: &Question, index: usize) -> Result<i128, LossesRefusal> {
+    loss(map, question.speed, question.torque).map_err(|refusal| LossesRefusal {
+        refusal,
+        point: Some(index),
+    })
 }
 
 /// A negative quotient comes nearer to zero; the denominator is above zero.

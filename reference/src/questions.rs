@@ -2,12 +2,7 @@
 
 use crate::random::Source;
 
-/// Speed in tenths of rpm, torque in hundredths of Nm.
-#[derive(Clone, Copy)]
-pub struct Question {
-    pub speed: u32,
-    pub torque: u32,
-}
+pub use crate::lookup::Question;
 
 /// A number on or about an axis whose numbers are so many units each; often below the first where that is answered.
 fn about(source: &mut Source, axis: &[u16], unit: u32, answered_below: bool) -> u32 {

@@ -8,8 +8,9 @@ use crate::exact::{ExactMap, Verdict};
 use crate::listing::{listing, listing_of_data, report_of};
 use crate::load_tally::LoadTally;
 use crate::loader::{self, trimmed};
-use crate::lookup::{self, LentMap};
+use crate::lookup::{self, LentMap, LossesRefusal};
 use crate::loss::SensorSteps;
+use crate::losses_tally::LossesTally;
 use crate::map::{self, Map};
 use crate::questions::Question;
 use crate::refusal::Refusal;
@@ -78,7 +79,7 @@ impl Writes {
 #[derive(Default)]
 pub struct Seen {
     pub cases: BTreeMap<char, u64>,
-    /// Those of writes, of steps, of loads and of drags are apart.
+    /// Those of writes, of steps, of loads, of drags and of many questions in one call are apart.
     pub refusals: BTreeMap<u8, u64>,
     pub places: BTreeMap<u8, BTreeSet<usize>>,
     /// Maps built, by the number of their kind.
@@ -86,6 +87,7 @@ pub struct Seen {
     pub allowances: Allowances,
     /// Maps built whose data, written again, has other bytes.
     pub written_otherwise: u64,
+    /// Losses at a point that was asked alone.
     pub losses: u64,
     pub negative_losses: u64,
     pub entries: Excess,
@@ -96,6 +98,7 @@ pub struct Seen {
     pub steps: StepsTally,
     pub loads: LoadTally,
     pub drags: DragTally,
+    pub many_losses: LossesTally,
 }
 
 impl Seen {
@@ -151,7 +154,38 @@ pub fn reply(case: &Case, seen: &mut Seen) -> Vec<u8> {
         Case::Steps { sensor, torque } => steps_reply(*sensor, *torque, seen).into_bytes(),
         Case::Load { text, entries } => load_reply(text, *entries, seen).into_bytes(),
         Case::Drag(numbers) => drag_reply(numbers, seen).into_bytes(),
+        Case::Losses {
+            map,
+            room,
+            questions,
+        } => losses_reply(map, *room, questions, seen).into_bytes(),
     }
+}
+
+/// The room past the losses, or all of it where there are none, is kept as it was.
+fn losses_reply(map: &LentMap, room: usize, questions: &[Question], seen: &mut Seen) -> String {
+    let mut losses = vec![0; room];
+    let answer = lookup::losses(map, questions, &mut losses);
+    let answer = answer.map(|count| &losses[..count]);
+    seen.many_losses.add(map, room, questions, answer);
+    losses_lines(answer) + "losses kept\n"
+}
+
+/// How many losses were answered and each of them in hundredths of Nm, a line each; or the refusal, as one line.
+pub fn losses_lines(answer: Result<&[i128], LossesRefusal>) -> String {
+    let losses = match answer {
+        Ok(losses) => losses,
+        Err(refusal) => return format!("{refusal}\n"),
+    };
+    let mut lines = format!("answered {}\n", losses.len());
+    for loss in losses {
+        lines += &loss_line(*loss);
+    }
+    lines
+}
+
+fn loss_line(loss: i128) -> String {
+    format!("loss {loss}\n")
 }
 
 /// Nothing is lent, so no line says that it is kept.
@@ -372,7 +406,7 @@ fn question_lines(
                     seen.answers.add(verdict);
                 }
             }
-            format!("loss {loss}\n")
+            loss_line(loss)
         }
         Err(refusal) => seen.refused(refusal),
     };

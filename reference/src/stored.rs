@@ -2,14 +2,15 @@
 
 use crate::cases::{by_chance, systematic, Case, MOST_ENTRIES, MOST_TEXT};
 use crate::listing::report;
-use crate::lookup::Axis;
+use crate::lookup::{Axis, LentMap};
 use crate::questions::Question;
 use crate::random::Source;
 use crate::reply::{reply, Excess, Seen, Writes};
 use crate::retarder::RetarderNumbers;
 use crate::writer::HandedNumbers;
 use crate::{
-    allowance_cases, drag_cases, load_cases, refused_number_cases, steps_cases, valid, write_cases,
+    allowance_cases, drag_cases, load_cases, losses_cases, refused_number_cases, steps_cases,
+    valid, write_cases,
 };
 use std::fmt;
 
@@ -21,9 +22,10 @@ const REFUSED_NUMBERS_BY_CHANCE: u64 = 240;
 const STEPS_BY_CHANCE: u64 = 400;
 const LOADS_BY_CHANCE: u64 = 300;
 const DRAGS_BY_CHANCE: u64 = 170;
+const LOSSES_BY_CHANCE: u64 = 200;
 
-/// How many cases were written by hand before the requests C-12 to C-17.
-const WRITTEN_BY_HAND_BEFORE: [usize; 6] = [265, 315, 326, 372, 483, 719];
+/// How many cases were written by hand before the requests C-12 to C-17, and before many questions in one call.
+const WRITTEN_BY_HAND_BEFORE: [usize; 7] = [265, 315, 326, 372, 483, 719, 882];
 
 /// Chosen among many: its data is accepted, no number of a sensor is 0, and most entries differ from each other.
 const MAP_PROGRAM_CASE: u64 = 8_283;
@@ -39,6 +41,9 @@ pub const LOAD_REFUSALS: [u8; 8] = [40, 41, 42, 4, 5, 6, 10, 11];
 
 /// Every refusal of a drag.
 pub const DRAG_REFUSALS: [u8; 3] = [45, 46, 47];
+
+/// Every refusal of many questions in one call.
+pub const LOSSES_REFUSALS: [u8; 4] = [22, 11, 20, 21];
 
 const KINDS: [u8; 3] = [1, 2, 3];
 
@@ -79,6 +84,16 @@ pub fn question_of(bytes: &[u8]) -> (Question, &[u8]) {
     (question, &bytes[8..])
 }
 
+/// Both axes of a case: their counts, then all places of the speeds and of the torques.
+fn axes_of(next: &mut impl FnMut(usize) -> u64) -> (Axis, Axis) {
+    let counts = [(); 2].map(|()| next(8) as usize);
+    let mut axis = |count: usize, places: usize| Axis {
+        numbers: (0..places).map(|_| next(2) as u16).collect(),
+        count,
+    };
+    (axis(counts[0], 32), axis(counts[1], 64))
+}
+
 /// A write: how many bytes are lent, in four bytes, then the body of its case.
 pub fn write_of(bytes: &[u8]) -> (usize, HandedNumbers) {
     let mut rest = bytes;
@@ -89,12 +104,7 @@ pub fn write_of(bytes: &[u8]) -> (usize, HandedNumbers) {
     };
     let room = next(4) as usize;
     let [kind, line, ratio] = [(); 3].map(|()| next(2) as u16);
-    let counts = [(); 2].map(|()| next(8) as usize);
-    let mut axis = |count: usize, places: usize| Axis {
-        numbers: (0..places).map(|_| next(2) as u16).collect(),
-        count,
-    };
-    let (speeds, torques) = (axis(counts[0], 32), axis(counts[1], 64));
+    let (speeds, torques) = axes_of(&mut next);
     let sensors = [(); 3].map(|()| [(); 9].map(|()| next(2) as u16));
     let row_torques = rest.chunks_exact(4);
     let numbers = HandedNumbers {
@@ -139,6 +149,31 @@ pub fn drag_of(bytes: &[u8]) -> RetarderNumbers {
     }
 }
 
+/// Many questions in one call: how many losses are lent, in four bytes, how many questions, in one byte, the questions, eight bytes each, then the map, which is the body of its case.
+pub fn losses_of(bytes: &[u8]) -> (usize, Vec<Question>, LentMap) {
+    let mut rest = bytes;
+    let mut next = |width: usize| {
+        let (number, behind) = rest.split_at(width);
+        rest = behind;
+        number_of(number)
+    };
+    let room = next(4) as usize;
+    let count = next(1);
+    let questions = (0..count).map(|_| Question {
+        speed: next(4) as u32,
+        torque: next(4) as u32,
+    });
+    let questions = questions.collect();
+    let (speeds, torques) = axes_of(&mut next);
+    let entries = rest.chunks_exact(4);
+    let map = LentMap {
+        speeds,
+        torques,
+        entries: entries.map(|bytes| number_of(bytes) as u32).collect(),
+    };
+    (room, questions, map)
+}
+
 fn hand_case((letter, bytes): (char, Vec<u8>)) -> Case {
     match letter {
         'r' => Case::Read(bytes),
@@ -159,6 +194,14 @@ fn hand_case((letter, bytes): (char, Vec<u8>)) -> Case {
             }
         }
         'd' => Case::Drag(drag_of(&bytes)),
+        'a' => {
+            let (room, questions, map) = losses_of(&bytes);
+            Case::Losses {
+                map,
+                room,
+                questions,
+            }
+        }
         _ => {
             let (question, data) = question_of(&bytes);
             Case::Build {
@@ -171,17 +214,22 @@ fn hand_case((letter, bytes): (char, Vec<u8>)) -> Case {
     }
 }
 
-/// All stored cases, in their order. Those of a later request are behind all others, which thereby stay as they were before it: the writes of C-12, then the allowances of C-13, then the refused numbers of C-14, then the steps of C-15, then the loads of C-16, then the drags of C-17.
-pub fn stored_cases() -> Vec<Case> {
+/// The cases written by hand, in the sections in which they are stored.
+fn sections_by_hand() -> [Vec<Case>; 8] {
     let mut cases: Vec<Case> = written_by_hand().into_iter().map(hand_case).collect();
-    let [before_writes, before_allowances, before_refused_numbers, before_steps, before_loads, before_drags] =
-        WRITTEN_BY_HAND_BEFORE;
-    let drags = cases.split_off(before_drags);
-    let loads = cases.split_off(before_loads);
-    let steps = cases.split_off(before_steps);
-    let refused_numbers = cases.split_off(before_refused_numbers);
-    let allowances = cases.split_off(before_allowances);
-    let writes = cases.split_off(before_writes);
+    let mut sections = [(); 8].map(|()| Vec::new());
+    let later = sections[1..].iter_mut().zip(WRITTEN_BY_HAND_BEFORE);
+    for (section, before) in later.rev() {
+        *section = cases.split_off(before);
+    }
+    sections[0] = cases;
+    sections
+}
+
+/// All stored cases, in their order. Those of a later request are behind all others, which thereby stay as they were before it: the writes of C-12, then the allowances of C-13, then the refused numbers of C-14, then the steps of C-15, then the loads of C-16, then the drags of C-17, then many questions in one call.
+pub fn stored_cases() -> Vec<Case> {
+    let [mut cases, writes, allowances, refused_numbers, steps, loads, drags, many_losses] =
+        sections_by_hand();
     cases.extend(systematic(SEED));
     cases.extend((0..CASES_BY_CHANCE).map(|number| by_chance(SEED, number, false)));
     cases.extend(writes);
@@ -206,6 +254,10 @@ pub fn stored_cases() -> Vec<Case> {
     cases.extend(drags);
     cases.extend(drag_cases::systematic(SEED));
     cases.extend((0..DRAGS_BY_CHANCE).map(|number| drag_cases::by_chance(SEED, number)));
+    cases.extend(many_losses);
+    cases.extend(losses_cases::systematic(SEED));
+    let losses = |number| losses_cases::by_chance(SEED, number, false);
+    cases.extend((0..LOSSES_BY_CHANCE).map(losses));
     cases
 }
 
@@ -260,6 +312,7 @@ pub fn missing(seen: &Seen) -> Vec<String> {
     counts.extend(seen.steps.counts());
     counts.extend(seen.loads.counts());
     counts.extend(seen.drags.counts());
+    counts.extend(seen.many_losses.counts());
     let too_few = counts.iter().filter(|(_, count)| *count < 20);
     missing.extend(too_few.map(|(name, count)| format!("{name}: {count}")));
     missing
@@ -308,18 +361,22 @@ fn by_kind(count: impl Fn(u8) -> u64) -> String {
     )
 }
 
+/// What the cases of each letter are.
+const CASE_NAMES: [(char, &str); 9] = [
+    ('r', "data read"),
+    ('p', "data for the map program"),
+    ('b', "data built"),
+    ('m', "maps lent"),
+    ('w', "numbers handed to the writer"),
+    ('s', "sensors asked for their steps"),
+    ('l', "texts loaded"),
+    ('d', "retarders asked for their drag"),
+    ('a', "maps asked many questions in one call"),
+];
+
 impl fmt::Display for Seen {
     fn fmt(&self, f: &mut fmt::Formatter) -> fmt::Result {
-        for (letter, name) in [
-            ('r', "data read"),
-            ('p', "data for the map program"),
-            ('b', "data built"),
-            ('m', "maps lent"),
-            ('w', "numbers handed to the writer"),
-            ('s', "sensors asked for their steps"),
-            ('l', "texts loaded"),
-            ('d', "retarders asked for their drag"),
-        ] {
+        for (letter, name) in CASE_NAMES {
             if let Some(count) = self.cases.get(&letter) {
                 writeln!(f, "{name}: {count}")?;
             }
@@ -344,6 +401,7 @@ impl fmt::Display for Seen {
         self.steps.fmt(f)?;
         self.loads.fmt(f)?;
         self.drags.fmt(f)?;
+        self.many_losses.fmt(f)?;
         self.refused_numbers.fmt(f)?;
         excess_line(f, "entries", &self.entries)?;
         excess_line(f, "answers from the first torque upwards", &self.answers)?;

@@ -3,7 +3,8 @@
 use reference::examples::files;
 use reference::trace;
 use std::fs::{self, File};
-use std::io::Write;
+use std::io::{self, ErrorKind, PipeWriter, Write};
+use std::iter;
 use std::path::{Path, PathBuf};
 use std::process::{Command, Output, Stdio};
 
@@ -222,19 +223,23 @@ fn a_full_output() {
     expect_failure(output.unwrap(), 1, "");
 }
 
+/// A pipe without a reader. A child of another test may hold the reading end until it runs its program: it is written to until no one does.
+fn unread_pipe() -> PipeWriter {
+    let (reader, mut writer) = io::pipe().unwrap();
+    drop(reader);
+    let mut writes = iter::repeat_with(|| writer.write_all(b"\n"));
+    let failure = writes.find_map(Result::err).unwrap();
+    assert_eq!(failure.kind(), ErrorKind::BrokenPipe);
+    writer
+}
+
 #[test]
 fn an_output_whose_reader_is_gone() {
-    let mut child = Command::new(TRACE)
-        .args(["entry", "-", "100", "0"])
-        .stdin(Stdio::piped())
-        .stdout(Stdio::piped())
-        .stderr(Stdio::piped())
-        .spawn()
-        .unwrap();
-    drop(child.stdout.take());
-    let data = example("standard.axle");
-    child.stdin.take().unwrap().write_all(&data).unwrap();
-    let output = child.wait_with_output().unwrap();
+    let folder = folder("reader-gone");
+    let file = example_file(&folder, "standard.axle");
+    let mut command = Command::new(TRACE);
+    command.args(["entry", &file, "100", "0"]);
+    let output = command.stdout(unread_pipe()).output().unwrap();
     expect_failure(output, 2, "standard output: ");
 }
 

@@ -247,7 +247,8 @@ fn refused_of_kind_3() -> Vec<(Vec<u8>, Refusal)> {
             | Case::Write { .. }
             | Case::Steps { .. }
             | Case::Load { .. }
-            | Case::Drag(_) => continue,
+            | Case::Drag(_)
+            | Case::Losses { .. } => continue,
         };
         if data.starts_with(&[1, 0, 1, 3]) {
             let in_data = refusal.filter(|refusal| refusal.number != 11);

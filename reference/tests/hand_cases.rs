@@ -1,15 +1,19 @@
-//! cases/cases.txt against cases/answers.txt, which a third program reckoned in exact fractions, with the allowance of request C-13; those of kind 3, of the writer, of that request and of requests C-14 to C-17, the last ones, were reckoned by hand, but for the last one of C-13.
+//! cases/cases.txt against cases/answers.txt, which a third program reckoned in exact fractions, with the allowance of request C-13; those of kind 3, of the writer, of that request, of requests C-14 to C-17 and of many questions in one call, the last ones, were reckoned by hand, but for the last one of C-13.
 
 use reference::component;
 use reference::listing::report;
 use reference::loader::load;
-use reference::lookup::{loss, nearest, LentMap};
+use reference::lookup::{loss, losses, nearest, LentMap};
 use reference::map;
 use reference::refusal::Refusal;
-use reference::reply::{component_line, drag_line, loaded_line, steps_line, written_lines};
+use reference::reply::{
+    component_line, drag_line, loaded_line, losses_lines, steps_line, written_lines,
+};
 use reference::retarder::drag;
 use reference::steps::checked_steps;
-use reference::stored::{drag_of, load_of, question_of, steps_of, write_of, written_by_hand};
+use reference::stored::{
+    drag_of, load_of, losses_of, question_of, steps_of, write_of, written_by_hand,
+};
 use reference::writer;
 
 fn refused(refusal: Refusal) -> String {
@@ -57,6 +61,13 @@ fn drag_answer(bytes: &[u8]) -> String {
     drag(&drag_of(bytes)).map_or_else(refused, drag_line)
 }
 
+fn losses_answer(bytes: &[u8]) -> String {
+    let (room, questions, map) = losses_of(bytes);
+    let mut room = vec![0; room];
+    let answer = losses(&map, &questions, &mut room);
+    losses_lines(answer.map(|count| &room[..count]))
+}
+
 fn answer((letter, bytes): (char, Vec<u8>)) -> String {
     match letter {
         'r' => match component::read(&bytes) {
@@ -68,6 +79,7 @@ fn answer((letter, bytes): (char, Vec<u8>)) -> String {
         's' => steps_answer(&bytes),
         'l' => load_answer(&bytes),
         'd' => drag_answer(&bytes),
+        'a' => losses_answer(&bytes),
         _ => question_answer(&bytes),
     }
 }
@@ -75,7 +87,7 @@ fn answer((letter, bytes): (char, Vec<u8>)) -> String {
 #[test]
 fn answers_are_those_of_the_third_program_and_of_the_hand() {
     let cases = written_by_hand();
-    assert_eq!(cases.len(), 178 + 87 + 50 + 11 + 46 + 111 + 236 + 163);
+    assert_eq!(cases.len(), 178 + 87 + 50 + 11 + 46 + 111 + 236 + 163 + 43);
     let answers: String = cases.into_iter().map(answer).collect();
     assert_eq!(answers, include_str!("../cases/answers.txt"));
 }

@@ -124,7 +124,11 @@ impl Handed {
                 Handed::of_data('b', data, *entries, answer)
             }
             Case::Write { numbers, room } => Some(Handed::of_numbers(numbers, *room)),
-            Case::Map { .. } | Case::Steps { .. } | Case::Load { .. } | Case::Drag(_) => None,
+            Case::Map { .. }
+            | Case::Steps { .. }
+            | Case::Load { .. }
+            | Case::Drag(_)
+            | Case::Losses { .. } => None,
         }
     }
 

@@ -1,5 +1,7 @@
 //! The calls of libaxle.a, as `include/axle.h` declares them.
 
+use crate::Point;
+
 /// The answer of a build.
 #[repr(C)]
 pub struct Built {
@@ -29,6 +31,15 @@ pub struct Loss {
     pub refusal: u32,
     pub place: usize,
     pub loss: i64,
+}
+
+/// The answer of the losses at many points, which stand in what was lent.
+#[repr(C)]
+pub struct Losses {
+    pub refusal: u32,
+    pub has_point: u32,
+    pub place: usize,
+    pub point: usize,
 }
 
 #[repr(C)]
@@ -113,6 +124,18 @@ extern "C" {
         speed: u32,
         torque: u32,
     ) -> Loss;
+    pub fn axle_losses(
+        speeds: *const u16,
+        speed_count: usize,
+        torques: *const u16,
+        torque_count: usize,
+        entries: *const u32,
+        entry_count: usize,
+        points: *const Point,
+        point_count: usize,
+        losses: *mut i64,
+        loss_count: usize,
+    ) -> Losses;
     pub fn axle_nearest(
         speeds: *const u16,
         speed_count: usize,

@@ -8,8 +8,8 @@
 //! Component data is of kind 1 (standard), 2 (measured with one sensor at the output) or 3
 //! (measured with one on each half-shaft, left and right). Every call that takes component data or
 //! its map takes all three alike; `docs/FORMAT.md` has them byte by byte. `Numbers` makes such data,
-//! `Map::load` takes in a listing, `Sensor::steps` answers the steps of one sensor's uncertainty, and
-//! `retarder_drag` the drag of a retarder.
+//! `Map::load` takes in a listing, `Map::losses` answers many questions to one map in one call,
+//! `Sensor::steps` the steps of one sensor's uncertainty, and `retarder_drag` the drag of a retarder.
 //!
 //! ```
 //! let data = [
@@ -22,12 +22,14 @@
 
 mod c;
 mod grid;
+mod losses;
 mod numbers;
 mod refusal;
 mod retarder;
 mod steps;
 
 pub use grid::Grid;
+pub use losses::{losses, LossesRefusal, Point};
 pub use numbers::{Numbers, Sensor};
 pub use refusal::Refusal;
 pub use retarder::retarder_drag;
@@ -235,6 +237,30 @@ impl Map {
     /// It may be negative below the first torque. Refusals 20, 21.
     pub fn loss(&self, speed: u32, torque: u32) -> Result<i64, Refusal> {
         loss(&self.grid, &self.entries, speed, torque)
+    }
+
+    /// The losses in hundredths of Nm at many points, in their order: of each the one that `loss`
+    /// answers. It may be negative below the first torque. Refused is the first point that `loss`
+    /// refuses, with 20 or 21; 22 is never told, for a `Map` was tested when it was made, nor is 11.
+    ///
+    /// ```
+    /// use axle::{LossesRefusal, Map, Point};
+    ///
+    /// let text = b"speed,torque,loss\n100,0,130.00\n100,1000,150.41\n200,0,130.00\n200,1000,150.41\n";
+    /// let map = Map::load(text)?;
+    /// let half = Point { speed: 1_000, torque: 50_000 }; // 100.0 rpm and 500.00 Nm
+    /// let full = Point { speed: 1_505, torque: 100_000 };
+    /// assert_eq!(map.losses(&[half, full])?, [14_021, 15_041]); // 140.21 Nm and 150.41 Nm
+    ///
+    /// let above = Point { speed: 1_505, torque: 100_001 };
+    /// let refused = map.losses(&[half, above]).unwrap_err();
+    /// assert_eq!((refused.refusal.number, refused.point), (21, Some(1)));
+    /// # Ok::<(), LossesRefusal>(())
+    /// ```
+    pub fn losses(&self, points: &[Point]) -> Result<Vec<i64>, LossesRefusal> {
+        let mut answers = vec![0; points.len()];
+        losses(&self.grid, &self.entries, points, &mut answers)?;
+        Ok(answers)
     }
 
     /// The nearest grid point, a speed in rpm and a torque in Nm, to a speed in tenths of rpm and

@@ -1,6 +1,6 @@
 //! Every refusal of a build with its place, and how refusals print. Those of rows and sensors are
-//! tried on kind 2 here, and on kind 3 in half_shafts.rs; those of a load in loading.rs, those of a
-//! drag in retarder.rs.
+//! tried on kind 2 here, and on kind 3 in half_shafts.rs; those of a load in loading.rs, those of the
+//! losses at many points in losses.rs, those of a drag in retarder.rs.
 
 use axle::{build, Map, Refusal, READING_LIMIT};
 

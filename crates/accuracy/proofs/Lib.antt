@@ -4,5 +4,6 @@ pub mod Weights
 pub mod Sums
 pub mod Limits
 pub mod Demand
+pub mod Losses
 pub mod Demands
 pub mod Conventions

@@ -45,11 +45,16 @@ root_up_law (suc n) = bisection_law (suc n) (suc n) 0 (suc n) (omega arith) (ome
 pub is_root_up : {n r : ℕ} → RootUp n r → r ≡ root_up n
 is_root_up {n} p = root_up_unique p (root_up_law n)
 
-pub root_of_zero : (n : ℕ) → n ≡ 0 → 0 ≡ root_up n
-root_of_zero n e = is_root_up (record { enough = omega arith; least = λ r h. omega arith })
-
 pub next_is_root_up : (n low high : ℕ) → low * low < n → n ≤ high * high → high ≤ suc low → high ≡ root_up n
 next_is_root_up n low high a b c = is_root_up (next_is_root n low high a b c)
+
+-- a number that is near the root: it, or the next one
+pub one_above_near : (n near : ℕ) → near * near < n → n ≤ near * near + 2 * near + 1 → near + 1 ≡ root_up n
+one_above_near n near a b = next_is_root_up n near (near + 1) a (omega (arith, b)) (omega arith)
+
+pub near_itself : (n near : ℕ) → n ≤ near * near → near * near + 2 ≤ n + 2 * near → near ≡ root_up n
+near_itself n zero a b = absurd (omega arith)
+near_itself n (suc k) a b = next_is_root_up n k (suc k) (omega (arith, b)) a (omega arith)
 
 -- the root rounded down, where its square is all of the number
 pub exact_is_root_up : (n r : ℕ) → r * r ≤ n → n ≤ r * r → r ≡ root_up n

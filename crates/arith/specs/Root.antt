@@ -1,5 +1,5 @@
 -- Square roots of whole numbers, rounded up and rounded down. Assumes nothing.
-use Rattle.std.specs.Prelude.{ℕ, zero, suc, pred, ◌+◌, ◌*◌, ◌/◌, ◌-◌, ◌^◌, ◌≤◌, ◌<◌, ◌≡◌, true, false, leb, ltb}
+use Rattle.std.specs.Prelude.{ℕ, zero, suc, pred, ◌+◌, ◌*◌, ◌/◌, ◌≤◌, ◌≡◌, true, false, leb, ltb}
 use Rattle.std.proofs.Common.{le_antisymm}
 
 -- r is the root of n rounded up: its square reaches n, and that of no smaller number does
@@ -35,10 +35,6 @@ root_up (suc n) = bisection (suc n) (suc n) 0 (suc n)
 unfoldable pub root_down : ℕ → ℕ
 unfolding root_up
 root_down n = pred (root_up (n + 1))
-
--- a guess at a root that can be tested and corrected by one within 64 bits
-abbrev pub Guess : ℕ → Type 0
-Guess r = (0 < r) × (r < 2 ^ 32 - 1)
 
 pub root_up_unique : {n r s : ℕ} → RootUp n r → RootUp n s → r ≡ s
 root_up_unique {r = r} {s = s} p q = le_antisymm (p.least s q.enough) (q.least r p.enough)

@@ -1,9 +1,13 @@
 // Quotients and square roots of whole numbers, rounded up.
 #![tactic(auto)]
 
-ghost use Rattle.std.specs.Prelude.{◌≡◌, ◌<◌, ◌≤◌, ◌^◌, IsTrue};
+ghost use Rattle.std.specs.Prelude.{◌≡◌, ◌<◌, ◌≤◌, ◌^◌};
 ghost use Rattle.arith.specs.Quotient.{quotient_up};
-ghost use Rattle.arith.specs.Root.{root_up, Guess};
+ghost use Rattle.arith.specs.Root.{root_up};
+
+mod root_table;
+
+use root_table::ROOTS;
 
 // n / d rounded up; 0 where d is 0.
 #[tactic(auto, using(crate::specs::Quotient::quotient_up_by_zero, crate::proofs::Quotients::div_ceil_is_quotient_up))]
@@ -13,45 +17,23 @@ pub fn quotient_up(n: u64, d: u64) -> u64
     if d == 0 { 0 } else { n.div_ceil(d) }
 }
 
-// The root of n rounded up: a near guess, tested. By `isqrt` alone it takes three and a half times as long.
+// The root of n rounded up: a near guess, tested.
 pub fn root_up(n: u64) -> u64
     ensures { result ≡ root_up n }
 {
     let near = near_root(n);
-    if is_root_up(n, near) {
-        near
-    } else {
-        root_up_about(n, near)
-    }
-}
-
-// The root of n rounded up, from a guess that is not it: a step of Newton's method, from one above so that its sum fits, and one up or down, tested; `isqrt` where that is not it either.
-fn root_up_about(n: u64, near: u64) -> u64
-    requires { Guess near }
-    ensures { result ≡ root_up n }
-{
-    let candidate = corrected(n, just_above(newton_step(n, near + 1)));
-    if is_root_up(n, candidate) {
-        candidate
+    let square = near * near;
+    if n <= square + 2 * near + 1 && square + 2 <= n + 2 * near {
+        // (added, and not chosen by a branch: which of the two it is cannot be foretold)
+        near + u64::from(square < n)
     } else {
         root_up_by_isqrt(n)
     }
 }
 
-// True only where r is the root of n rounded up.
-#[tactic(auto, using(crate::proofs::Roots::root_of_zero, crate::proofs::Roots::next_is_root_up))]
-fn is_root_up(n: u64, r: u64) -> bool
-    requires { r < 2 ^ 32 }
-    ensures { IsTrue result → r ≡ root_up n }
-{
-    if r == 0 {
-        return n == 0;
-    }
-    let below = r - 1;
-    below * below < n && n <= r * r
-}
-
-// The root of n rounded up, from that rounded down.
+// The root of n rounded up, from that rounded down. (Cold and by itself, so that it takes no room where a root is asked.)
+#[cold]
+#[inline(never)]
 #[tactic(auto, using(crate::proofs::Roots::exact_is_root_up, crate::proofs::Roots::next_is_root_up))]
 fn root_up_by_isqrt(n: u64) -> u64
     ensures { result ≡ root_up n }
@@ -60,51 +42,78 @@ fn root_up_by_isqrt(n: u64) -> u64
     if below * below < n { below + 1 } else { below }
 }
 
-// One step from near towards the root of n rounded up, or none.
-fn corrected(n: u64, near: u64) -> u64
-    requires { Guess near }
-    ensures { result < 2 ^ 32 }
-{
-    let below = near - 1;
-    if near * near < n {
-        near + 1
-    } else if n <= below * below {
-        below
-    } else {
-        near
-    }
-}
+// From here up the straight line between two roots of the table is more than one below the root: 2^42.
+const CORRECTED_FROM: u64 = 4_398_046_511_104;
 
-// Near the root of n, for n above 0. No proof rests on how near.
+// A guess is at most this: 2^31.
+const LARGEST_GUESS: u64 = 2_147_483_648;
+
+// Near the root of n, for n below 2^62, as from a printed table: the root of its first ten bits, and the straight line to the next,
+// which is corrected by its slope where it is too far below. No proof rests on how near.
 fn near_root(n: u64) -> u64
-    ensures { Guess result }
+    ensures { result ≤ 2 ^ 31 }
 {
-    let half = n.leading_zeros() / 2 % 32;
+    // (fewer than 32; of 0 and 1 alike)
+    let half = (n | 1).leading_zeros() / 2 % 32;
     let m = n << (2 * half);
-    just_above(newton_step(m, first_guess(m)) >> half)
+    let line = Line::at(m);
+    let height = line.height(m);
+    let root = if n < CORRECTED_FROM {
+        height
+    } else {
+        line.corrected(m, height)
+    };
+    // (one less before and one more after: the root of a square is not passed)
+    (root.wrapping_sub(1) >> half) % LARGEST_GUESS + 1
 }
 
-// One above, or the largest that `corrected` takes.
-fn just_above(root: u64) -> u64
-    ensures { Guess result }
-{
-    root.min(4294967293) + 1
+// A segment of the table is so wide: 2^54, that is the first ten bits of a number of 64.
+const SEGMENT: u64 = 18_014_398_509_481_984;
+
+// The first ten bits of 2^62, where the table begins, and how many segments it has.
+const FIRST_SEGMENT: usize = 256;
+
+const SEGMENTS: usize = 768;
+
+// Within a segment a number is counted in parts of 2^22, of which there are 2^32.
+const PART: u64 = 4_194_304;
+
+const PARTS: u64 = 4_294_967_296;
+
+// The straight line from a root of the table to the next.
+#[derive(Clone, Copy)]
+struct Line {
+    pub lower: u32,
+    pub rise: u32,
 }
 
-// Near the root of m, for m from 2^62 up: 2^32 * (0.1905 + 1.5463 * t - t * t * (1.4759 - 1.0629 * t + 0.3240 * t * t)), t being m / 2^64.
-fn first_guess(m: u64) -> u64
-    ensures lower { 2 ≤ result }
-    ensures upper { result ≤ 2 ^ 33 }
-{
-    let x = m / 281474976710656;
-    let square = x * x / 65536;
-    817986897 + 101338 * x - (6338771451 - 69655 * x + 21233 * square) / 65536 * square
-}
+impl Line {
+    // The line on which the root of m is, for m from 2^62 up.
+    fn at(m: u64) -> Line {
+        let i = ((m / SEGMENT) as usize)
+            .saturating_sub(FIRST_SEGMENT)
+            .min(SEGMENTS - 1);
+        Line {
+            lower: ROOTS[i],
+            // (wrapping, for nothing says here that the roots rise)
+            rise: ROOTS[i + 1].wrapping_sub(ROOTS[i]),
+        }
+    }
 
-// One step of Newton's method from s towards the root of m.
-fn newton_step(m: u64, s: u64) -> u64
-    requires lower { 2 ≤ s }
-    requires upper { s ≤ 2 ^ 33 }
-{
-    (s + m / s) / 2
+    // Its height at m.
+    fn height(self, m: u64) -> u64
+        ensures { result < 2 ^ 33 }
+    {
+        let behind = (m / PART % PARTS) as u32;
+        u64::from(self.lower) + u64::from(self.rise) * u64::from(behind) / PARTS
+    }
+
+    // A step from a height of the line towards the root of m: what its square lacks of m, by the slope, which is the rise over the
+    // width of a segment. In two steps, 2^16 and 2^38, so that the product fits.
+    fn corrected(self, m: u64, height: u64) -> u64
+        requires { height < 2 ^ 33 }
+    {
+        let lacking = m.wrapping_sub(height.wrapping_mul(height));
+        height + (lacking / 65_536).wrapping_mul(u64::from(self.rise)) / 274_877_906_944
+    }
 }

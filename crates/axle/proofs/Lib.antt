@@ -2,5 +2,6 @@
 pub mod Building
 pub mod ListedMaps
 pub mod Index
+pub mod Losses
 pub mod SensorSteps
 pub mod RetarderDrag

@@ -15,6 +15,7 @@ use Rattle.axle.specs.declared.AxleLength.{AxleLength}
 use Rattle.axle.specs.declared.AxleWritten.{AxleWritten}
 use Rattle.axle.specs.declared.AxleSteps.{AxleSteps}
 use Rattle.axle.specs.declared.AxleDrag.{AxleDrag}
+use Rattle.axle.specs.declared.AxleLosses.{AxleLosses}
 use Rattle.axle.specs.declared.AxleNumbers.{AxleNumbers}
 
 -- whether an index is told, 1 or 0
@@ -43,6 +44,11 @@ loss_of (refused t) = record { refusal = t.number; place = t.place; loss = pos 0
 abbrev pub nearest_of : Outcome GridPoint → AxleNearest
 nearest_of (accepted p) = record { refusal = 0; place = 0; speed = p.speed; torque = p.torque }
 nearest_of (refused t) = record { refusal = t.number; place = t.place; speed = 0; torque = 0 }
+
+-- why many questions are refused; the index is that of a point
+abbrev pub losses_of : {A : Type 0} → Outcome A → AxleLosses
+losses_of (accepted losses) = record { refusal = 0; has_point = 0; place = 0; point = 0 }
+losses_of (refused t) = record { refusal = t.number; has_point = has_index t.index; place = t.place; point = index_or_zero t.index }
 
 -- the length of a listing
 abbrev pub length_of : Outcome ℕ → AxleLength

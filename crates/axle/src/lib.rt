@@ -7,18 +7,20 @@ ghost use Rattle.std.specs.Prelude.{◌≡◌, length};
 ghost use Rattle.refusal.specs.Table.{outcome_of};
 ghost use Rattle.grid.specs.Parts.{grid_of};
 ghost use Rattle.lookup.specs.Loss.{loss_answer};
+ghost use Rattle.lookup.specs.Losses.{losses_outcome};
 ghost use Rattle.lookup.specs.Nearest.{nearest_answer};
 ghost use Rattle.listing.specs.Listing.{listing, listed};
 ghost use Rattle.buffer.specs.Written.{content_of};
 ghost use Rattle.writer.specs.Written.{written, file_after};
-ghost use Rattle.axle.specs.Interface.{status_of, loss_of, nearest_of, length_of, written_of, steps_of, drag_of, numbers_in};
+ghost use Rattle.axle.specs.Interface.{status_of, loss_of, losses_of, nearest_of, length_of, written_of, steps_of, drag_of, numbers_in};
 ghost use Rattle.axle.specs.Build.{BuiltOf, LoadedOf, BuildsForC, LoadsForC};
+ghost use Rattle.axle.specs.Losses.{LossesForC};
 ghost use Rattle.axle.specs.Steps.{StepsForC};
 ghost use Rattle.axle.specs.Drag.{DragForC};
 
 use cell::Point;
 use grid::{Axis, Grid};
-use lookup::GridPoint;
+use lookup::{GridPoint, LossesRefusal};
 use loss::Steps;
 use numbers::Numbers;
 use refusal::Refusal;
@@ -67,6 +69,17 @@ pub struct AxleLoss {
     pub refusal: u32,
     pub place: usize,
     pub loss: i64,
+}
+
+// Of many questions, why they are refused; where it is of a point, 1 and which, from 0, and else 0 and 0. All are 0 where nothing is
+// refused.
+#[repr(C)]
+#[derive(Clone, Copy)]
+pub struct AxleLosses {
+    pub refusal: u32,
+    pub has_point: u32,
+    pub place: usize,
+    pub point: usize,
 }
 
 // A speed in rpm and a torque in Nm, both 0 where it is refused.
@@ -208,6 +221,27 @@ impl From<Result<i64, Refusal>> for AxleLoss {
             refusal: status.refusal,
             place: status.place,
             loss: answer.unwrap_or(0),
+        }
+    }
+}
+
+impl From<Result<(), LossesRefusal>> for AxleLosses {
+    ghost from_gives = { λ answer losses. losses ≡ losses_of (losses_outcome answer) };
+
+    fn from(answer: Result<(), LossesRefusal>) -> AxleLosses {
+        match answer {
+            Ok(()) => AxleLosses {
+                refusal: 0,
+                has_point: 0,
+                place: 0,
+                point: 0,
+            },
+            Err(LossesRefusal { refusal, point }) => AxleLosses {
+                refusal: u32::from(refusal.number()),
+                has_point: u32::from(point.is_some()),
+                place: refusal.place(),
+                point: point.unwrap_or(0),
+            },
         }
     }
 }
@@ -356,6 +390,24 @@ pub fn axle_loss(
 {
     let grid = grid_of(speeds, speed_count, torques, torque_count);
     lookup::loss(&grid, entries, Point { speed, torque }).into()
+}
+
+// The losses at many points of a map, speeds in tenths of rpm and torques in hundredths of Nm, in the first places of what is lent.
+pub fn axle_losses(
+    speeds: &[u16; 32],
+    speed_count: usize,
+    torques: &[u16; 64],
+    torque_count: usize,
+    entries: &[u32],
+    points: &[Point],
+    losses: &mut [i64],
+) -> AxleLosses
+    ensures { LossesForC
+        (grid_of speeds.now speed_count torques.now torque_count) entries.now points.now
+        losses.old losses.new result }
+{
+    let grid = grid_of(speeds, speed_count, torques, torque_count);
+    lookup::losses(&grid, entries, points, losses).into()
 }
 
 // The nearest grid point, speed in tenths of rpm and torque in hundredths of Nm.

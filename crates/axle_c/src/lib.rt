@@ -11,13 +11,15 @@ ghost use Rattle.buffer.specs.Written.{content_of};
 ghost use Rattle.writer.specs.Written.{written, file_after};
 ghost use Rattle.axle.specs.Interface.{loss_of, nearest_of, length_of, written_of, numbers_in};
 ghost use Rattle.axle.specs.Build.{BuildsForC, LoadsForC};
+ghost use Rattle.axle.specs.Losses.{LossesForC};
 ghost use Rattle.axle.specs.Steps.{StepsForC};
 ghost use Rattle.axle.specs.Drag.{DragForC};
 
 use axle::{
-    AxleAxes, AxleBuilt, AxleDrag, AxleLength, AxleLoss, AxleNearest, AxleNumbers, AxleSteps,
-    AxleWritten,
+    AxleAxes, AxleBuilt, AxleDrag, AxleLength, AxleLoss, AxleLosses, AxleNearest, AxleNumbers,
+    AxleSteps, AxleWritten,
 };
+use cell::Point;
 
 // Builds the map of component data: its axes in the answer, its entries in the lent slice.
 #[unsafe(no_mangle)]
@@ -59,6 +61,32 @@ pub extern "C" fn axle_loss(
         entries,
         speed,
         torque,
+    )
+}
+
+// The losses at many points of a map.
+#[unsafe(no_mangle)]
+pub extern "C" fn axle_losses(
+    speeds: &[u16; 32],
+    speed_count: usize,
+    torques: &[u16; 64],
+    torque_count: usize,
+    entries: &[u32],
+    points: &[Point],
+    losses: &mut [i64],
+) -> AxleLosses
+    ensures { LossesForC
+        (grid_of speeds.now speed_count torques.now torque_count) entries.now points.now
+        losses.old losses.new result }
+{
+    axle::axle_losses(
+        speeds,
+        speed_count,
+        torques,
+        torque_count,
+        entries,
+        points,
+        losses,
     )
 }
 

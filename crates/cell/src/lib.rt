@@ -9,6 +9,7 @@ ghost use Rattle.cell.specs.Interpolation.{cell_numbers, interpolation, CellTher
 use grid::Grid;
 
 // A query's point: speed in tenths of rpm and torque in hundredths of Nm.
+#[repr(C)]
 #[derive(Clone, Copy)]
 pub struct Point {
     pub speed: u32,

@@ -16,24 +16,24 @@ use Rattle.grid.proofs.Lists.{length_tabulate, length_joined}
 
 -- ---- one value after the other
 
-write_next : (f : ℕ → ℕ) (i : ℕ) (before : List ℕ) → i < length before → set (tabulate f i ++ drop i before) i (f i) ≡ tabulate f (i + 1) ++ drop (i + 1) before
+write_next : {A : Type 0} (f : ℕ → A) (i : ℕ) (before : List A) → i < length before → set (tabulate f i ++ drop i before) i (f i) ≡ tabulate f (i + 1) ++ drop (i + 1) before
 unfolding tabulate
 write_next f i before h =
-    rw (drop-cons before i 0 h, add-one i, set_at (tabulate f i) _ (drop (suc i) before) (f i) i (length_tabulate f i))
+    rw (drop-cons before i (f i) h, add-one i, set_at (tabulate f i) _ (drop (suc i) before) (f i) i (length_tabulate f i))
     (sym (append_assoc (tabulate f i) (f i ∷ []) (drop (suc i) before)))
 
-pub record Filling (check : ℕ → Outcome (Unit {0})) (f : ℕ → ℕ) (count : ℕ) (before now : List ℕ) (i : ℕ) : Type 0 where
+pub record Filling {A : Type 0} (check : ℕ → Outcome (Unit {0})) (f : ℕ → A) (count : ℕ) (before now : List A) (i : ℕ) : Type 0 where
   pub passed : Passed check count i
   pub long : length now ≡ length before
   pub written : now ≡ tabulate f i ++ drop i before
 
-module _ (check : ℕ → Outcome (Unit {0})) (f : ℕ → ℕ) (count : ℕ) (before : List ℕ) where
+module _ {A : Type 0} (check : ℕ → Outcome (Unit {0})) (f : ℕ → A) (count : ℕ) (before : List A) where
   pub none_filled : Filling check f count before before 0
   unfolding tabulate
   none_filled = record { passed = none_passed check count; long = refl; written = refl }
 
-  module _ (now : List ℕ) (i : ℕ) (p : Filling check f count before now i) where
-    pub one_filled : i < count → count ≤ length before → check i ≡ accepted tt → (e : ℕ) → e ≡ f i → Filling check f count before (set now i e) (i + 1)
+  module _ (now : List A) (i : ℕ) (p : Filling check f count before now i) where
+    pub one_filled : i < count → count ≤ length before → check i ≡ accepted tt → (e : A) → e ≡ f i → Filling check f count before (set now i e) (i + 1)
     one_filled more fits fine e h =
         let r : i < length before = omega arith in
         let w : set now i e ≡ tabulate f (i + 1) ++ drop (i + 1) before = rw (p.written, h) (write_next f i before r) in

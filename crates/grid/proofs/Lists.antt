@@ -10,7 +10,7 @@ use native.Mathlib.Nat.{zero-mul, suc-mul, not-suc-le-zero, eq-or-lt_of_le, le_o
 use native.Mathlib.Omega.{arith}
 
 -- ---- as many as are asked for
-pub length_tabulate : (f : ℕ → ℕ) (n : ℕ) → length (tabulate f n) ≡ n
+pub length_tabulate : {A : Type 0} (f : ℕ → A) (n : ℕ) → length (tabulate f n) ≡ n
 unfolding tabulate
 length_tabulate f zero = refl
 length_tabulate f (suc n) = simp (length-append, length_tabulate f n) (omega arith)
@@ -24,19 +24,19 @@ length_joined f n (suc m) e =
     simp (length-append, h, k, suc-mul)
 
 -- ---- what stands at an index
-pub tabulate_at : (f : ℕ → ℕ) (n j : ℕ) → j < n → get_or (tabulate f n) j 0 ≡ f j
+pub tabulate_at : {A : Type 0} (f : ℕ → A) (n j : ℕ) (other : A) → j < n → get_or (tabulate f n) j other ≡ f j
 unfolding tabulate
-tabulate_at f zero j h = absurd (not-suc-le-zero h)
-tabulate_at f (suc n) j h =
+tabulate_at f zero j other h = absurd (not-suc-le-zero h)
+tabulate_at f (suc n) j other h =
     ⊎_elim
-    (λ e. rw e (get_or_at (tabulate f n) (f n) [] 0 n (length_tabulate f n)))
+    (λ e. rw e (get_or_at (tabulate f n) (f n) [] other n (length_tabulate f n)))
     (λ l.
     let k : j < length (tabulate f n) = rw (length_tabulate f n) l in
-    get_or-append (tabulate f n) (f n ∷ []) 0 j k ∙ tabulate_at f n j l)
+    get_or-append (tabulate f n) (f n ∷ []) other j k ∙ tabulate_at f n j other l)
     (eq-or-lt_of_le (le_of_suc-le-suc h))
 
 -- ---- the same elements
-pub tabulate_same : (f g : ℕ → ℕ) → ((i : ℕ) → f i ≡ g i) → (count : ℕ) → tabulate f count ≡ tabulate g count
+pub tabulate_same : {A : Type 0} (f g : ℕ → A) → ((i : ℕ) → f i ≡ g i) → (count : ℕ) → tabulate f count ≡ tabulate g count
 unfolding tabulate
 tabulate_same f g e zero = refl
 tabulate_same f g e (suc count) = rw (tabulate_same f g e count, e count)

@@ -1,16 +1,11 @@
 -- Laws of entries that have a bound. Assumes nothing.
-use Rattle.std.proofs.Common.{◌≡◌, ℕ, ◌+◌, ◌≤◌, ◌<◌, Bool, leb, List, ◌∷◌, length, get_or, drop, bit_or, Decides, EachIndex, slice_index, slice_range, arith}
+use Rattle.std.proofs.Common.{◌≡◌, ℕ, ◌+◌, ◌≤◌, ◌<◌, Bool, leb, List, ◌∷◌, length, get_or, drop, Decides, EachIndex, slice_index, slice_range, arith}
 use Rattle.std.proofs.lemmas.Grind.{common_steps}
 use Rattle.std.proofs.lemmas.List.{drop_more}
 use Rattle.std.proofs.lemmas.Bool.Decides.{same_from_decides}
 use borrow.Author.Tests.{le-leb, leb-true}
-use lib.Bits.{or_add_and, and_le_l, and_le_r}
 use Rattle.grid.specs.Map.{valid_entries}
 use Rattle.grid.proofs.Every.{and_snd, every_at, every_of}
-
--- two numbers are at most what they are joined to
-pub or_least : (a b : ℕ) → (a ≤ bit_or a b) × (b ≤ bit_or a b)
-or_least a b = (omega (arith, or_add_and a b, and_le_r a b), omega (arith, or_add_and a b, and_le_l a b))
 
 -- what stands first in the rest of a list, and what stands after it
 pub first_of_rest : (xs rest : List ℕ) (i x : ℕ) → drop i xs ≡ x ∷ rest → (i < length xs) × (x ≡ get_or xs i 0) × (rest ≡ drop (i + 1) xs)

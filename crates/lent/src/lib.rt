@@ -1,7 +1,7 @@
 // Whether what a caller lends as a map is one (22): axes that keep their rules, and an entry for each point, none above the largest.
 #![tactic(auto)]
 
-ghost use Rattle.std.specs.Prelude.{◌≡◌, true, ◌≤◌, ◌↔◌, IsTrue, length, EachIndex, slice_index, IfOk};
+ghost use Rattle.std.specs.Prelude.{◌≡◌, true, ◌≤◌, length, EachIndex, slice_index, IfOk};
 ghost use Rattle.refusal.specs.Outcome.{require};
 ghost use Rattle.refusal.specs.Table.{outcome_as};
 ghost use Rattle.grid.specs.Map.{counted_numbers, valid_entries, valid_map};
@@ -17,42 +17,30 @@ pub struct Map<'a> {
     pub ghost tested: { valid_map grid.now entries.now ≡ true },
 }
 
-// The entries joined by `|`: at least each of them.
-// Both halves are joined at once, which is quicker; the middle one of an odd count stands in both.
-#[tactic(auto, using(crate::proofs::Bound::or_least))]
-fn joined(entries: &[u32]) -> u32
-    ensures { EachIndex entries.now (λ k. slice_index entries.now k ≤ result) }
+// The largest of the entries, 0 where there are none. (Both halves are gone over at once, which is quicker; the middle one of an odd
+// count stands in both.)
+fn largest(entries: &[u32]) -> u32
+    ensures at_least { EachIndex entries.now (λ k. slice_index entries.now k ≤ result) }
+    ensures within { EachIndex entries.now (λ k. slice_index entries.now k ≤ 10000000) → result ≤ 10000000 }
 {
     let half = entries.len() / 2;
     let rest = entries.len() - half;
     let mut all = 0;
     for (first, second) in entries[..rest].iter().zip(&entries[half..]) {
-        all |= first | second;
+        all = all.max((*first).max(*second));
     }
     all
 }
 
-// Whether none of the entries is above the largest. No entry ends the loop, so that it runs on several at once.
-fn none_too_large(entries: &[u32]) -> bool
-    ensures { IsTrue result ↔ EachIndex entries.now (λ k. slice_index entries.now k ≤ 10000000) }
-{
-    let mut none = true;
-    for entry in entries {
-        none &= *entry <= LARGEST_ENTRY;
-    }
-    none
-}
-
 // Whether there are count entries, and none of the first count above the largest. The count is the points of a map, and
 // that as many are lent is what is tested here.
-// Where the joined entries are at most the largest, each is, and one comparison is enough.
 pub fn entries_valid(entries: &[u32], count: usize) -> bool
     ensures { result ≡ valid_entries entries.now count }
 {
     let Some(entries) = entries.get(..count) else {
         return false;
     };
-    joined(entries) <= LARGEST_ENTRY || none_too_large(entries)
+    largest(entries) <= LARGEST_ENTRY
 }
 
 // Whether what is lent is a map. (Grid and entries are what a caller lends; `Map` is what passed.)

@@ -221,15 +221,15 @@ module _ (all : List Row) where
 
   said_speed : (i : ℕ) → i < run_count all → get_or (map_said all).speeds i 0 ≡ (row_at all (i * first_run all)).speed
   unfolding map_said
-  said_speed i inside = tabulate_at (λ i. (row_at all (i * first_run all)).speed) (run_count all) i inside
+  said_speed i inside = tabulate_at (λ i. (row_at all (i * first_run all)).speed) (run_count all) i 0 inside
 
   said_torque : (j : ℕ) → j < first_run all → get_or (map_said all).torques j 0 ≡ (row_at all j).torque
   unfolding map_said
-  said_torque j inside = tabulate_at (λ j. (row_at all j).torque) (first_run all) j inside
+  said_torque j inside = tabulate_at (λ j. (row_at all j).torque) (first_run all) j 0 inside
 
   said_loss : (k : ℕ) → k < length all → get_or (map_said all).entries k 0 ≡ (row_at all k).loss
   unfolding map_said
-  said_loss k inside = tabulate_at (λ k. (row_at all k).loss) (length all) k inside
+  said_loss k inside = tabulate_at (λ k. (row_at all k).loss) (length all) k 0 inside
 
 pub loaded_valid : (text : List ℕ) (lent : ℕ) (m : LossMap) → load text lent ≡ accepted m → (grid : Grid) (entries : List ℕ) → Holds m grid entries
     → valid_map grid entries ≡ true

@@ -134,7 +134,7 @@ module _ (text losses : List ℕ) (runs : Runs) (a : AllRead text runs losses) w
         (λ i l.
         let inside : i < run_count a.rows = omega (arith, l, length_tabulate (λ i. (row_at a.rows (i * first_run a.rows)).speed) (run_count a.rows)) in
         let within : i * runs.first_run < length a.rows = omega (arith, whole, counts_are, mul-le-mul_right {m = i + 1} {n = runs.run_count} runs.first_run (omega (arith, inside, counts_are)), first_run_within) in
-        tabulate_at (λ i. (row_at a.rows (i * first_run a.rows)).speed) (run_count a.rows) i inside
+        tabulate_at (λ i. (row_at a.rows (i * first_run a.rows)).speed) (run_count a.rows) i 0 inside
         ∙ ap (λ n. (row_at a.rows (i * n)).speed) counts_are.1
         ∙ sym (a.counted.speeds i (omega (arith, inside, f.runs_most)) within)
         ∙ sym (get_or-take runs.run_count runs.speeds i 0 (omega (arith, inside, counts_are))))
@@ -145,7 +145,7 @@ module _ (text losses : List ℕ) (runs : Runs) (a : AllRead text runs losses) w
         (omega (arith, length_tabulate (λ i. (row_at a.rows i).torque) (first_run a.rows), counts_are, length-take runs.first_run runs.torques, a.counted.torque_places, first_run_within))
         (λ i l.
         let inside : i < first_run a.rows = omega (arith, l, length_tabulate (λ i. (row_at a.rows i).torque) (first_run a.rows)) in
-        tabulate_at (λ i. (row_at a.rows i).torque) (first_run a.rows) i inside
+        tabulate_at (λ i. (row_at a.rows i).torque) (first_run a.rows) i 0 inside
         ∙ sym (a.counted.torques i (omega (arith, inside, f.first_most)) (omega (arith, inside, counts_are)))
         ∙ sym (get_or-take runs.first_run runs.torques i 0 (omega (arith, inside, counts_are))))
 
@@ -165,7 +165,7 @@ module _ (text losses : List ℕ) (runs : Runs) (a : AllRead text runs losses) w
     kept_at i l =
         get_or-take runs.row_count losses i 0 (omega (arith, l, a.counted.count))
         ∙ a.kept i (omega (arith, l, rows_within, a.counted.count, long)) l
-        ∙ ap kept_loss (sym (tabulate_at (λ i. (row_at a.rows i).loss) (length a.rows) i l))
+        ∙ ap kept_loss (sym (tabulate_at (λ i. (row_at a.rows i).loss) (length a.rows) i 0 l))
 
     pub check_is : (lent : ℕ) → entries_check kept lent ≡ entries_check (map_said a.rows).entries lent
     check_is lent =

@@ -1,9 +1,9 @@
 -- Axes as lists of numbers, and the neighbours of a value on one. Assumes nothing.
-use Rattle.std.proofs.Common.{◌≡◌, ℕ, zero, suc, ◌+◌, ◌-◌, ◌*◌, ◌≤◌, ◌<◌, Bool, true, leb, List, length, get_or, take, ◌⊎◌, inl, inr, arith}
+use Rattle.std.proofs.Common.{◌≡◌, ℕ, zero, suc, ◌+◌, ◌-◌, ◌*◌, ◌/◌, ◌≤◌, ◌<◌, Bool, true, leb, refl, List, length, get_or, take, ◌⊎◌, inl, inr, arith}
 use Rattle.std.proofs.lemmas.List.{get_or_past, get_or-take, length-take-le}
 use native.Mathlib.Omega.{by_contra}
 use native.Mathlib.Decide.{dec_lt, dec_le}
-use native.Mathlib.Nat.{le_of_lt, lt_of_lt_of_le, mul-le-mul_left}
+use native.Mathlib.Nat.{le_of_lt, lt_of_lt_of_le, mul-le-mul_left, div-mul-le_self, lt-div-mul-add}
 use borrow.Author.Tests.{leb-true, leb-false, le-leb, lt-leb}
 use Rattle.grid.specs.Map.{counted_numbers, valid_grid, valid_map}
 use Rattle.grid.specs.declared.Grid.{Grid}
@@ -12,7 +12,7 @@ use Rattle.grid.specs.Rules.{AxisRules}
 use Rattle.grid.proofs.Map.{grid_facts, grid_of_lem, map_facts}
 use Rattle.cell.specs.Cell.{Within, Has}
 use Rattle.cell.specs.declared.Point.{Point}
-use Rattle.lookup.specs.Loss.{neighbour, cell_of}
+use Rattle.lookup.specs.Loss.{last_up_to, neighbour, cell_of}
 use Rattle.lookup.proofs.Search.{IsLast, last_found, last_unique}
 
 -- at least two numbers, each above the one before
@@ -107,6 +107,13 @@ module _ (ns : List ℕ) (scale v : ℕ) where
     pub neighbour_in : neighbour ns scale v + 1 < length ns
     neighbour_in = omega (arith, found.at_most, r.two)
 
+    -- but for the first it is at or below the value, and each after it but the last is above
+    pub neighbour_at_most : 0 < neighbour ns scale v → scale * get_or ns (neighbour ns scale v) 0 ≤ v
+    neighbour_at_most h = leb-true _ _ (found.holds h)
+
+    pub neighbour_above : (k : ℕ) → neighbour ns scale v < k → k + 1 < length ns → v < scale * get_or ns k 0
+    neighbour_above k h l = leb-false _ _ (found.fails k h (omega arith))
+
     pub neighbour_low : scale * get_or ns 0 0 ≤ v → scale * get_or ns (neighbour ns scale v) 0 ≤ v
     neighbour_low h = go (neighbour ns scale v) found.holds
       where
@@ -125,6 +132,38 @@ module _ (ns : List ℕ) (scale v : ℕ) where
     neighbour_first h =
         neighbour_is 0 (omega (arith, r.two)) (λ l. absurd (omega arith))
         (λ k a b. lt_of_lt_of_le h (mul-le-mul_left scale (rise_le ns r 0 k (omega arith) (omega arith))))
+
+-- whole numbers times a scale are at or below v where they are at or below its quotient
+last_same : (s t : ℕ → Bool) → ((k : ℕ) → s k ≡ t k) → (n : ℕ) → last_up_to s n ≡ last_up_to t n
+unfolding last_up_to
+last_same s t e zero = refl
+last_same s t e (suc n) = rw (e (suc n), last_same s t e n)
+
+at_or_below : (scale v n : ℕ) → 0 < scale → leb (scale * n) v ≡ leb (1 * n) (v / scale)
+at_or_below scale v n p = go (dec_le n (v / scale))
+  where
+    floor : (v / scale) * scale ≤ v
+    floor = div-mul-le_self v scale
+
+    next : v < (v / scale) * scale + scale
+    next = lt-div-mul-add {a = v} p
+
+    go : Dec (n ≤ v / scale) → leb (scale * n) v ≡ leb (1 * n) (v / scale)
+    go (yes l) =
+        let m = mul-le-mul_left scale l in
+        let a : scale * n ≤ v = omega (arith, m, floor) in
+        let b : 1 * n ≤ v / scale = omega arith in
+        rw (le-leb _ _ a, le-leb _ _ b)
+    go (no l) =
+        let above : v / scale + 1 ≤ n = omega arith in
+        let m = mul-le-mul_left scale above in
+        let a : v < scale * n = omega (arith, m, next) in
+        let b : v / scale < 1 * n = omega arith in
+        rw (lt-leb _ _ a, lt-leb _ _ b)
+
+pub neighbour_unscaled : (ns : List ℕ) (scale v : ℕ) → 0 < scale → neighbour ns scale v ≡ neighbour ns 1 (v / scale)
+unfolding neighbour
+neighbour_unscaled ns scale v p = last_same _ _ (λ k. at_or_below scale v (get_or ns k 0) p) (length ns - 2)
 
 -- ---- the cell of a point
 

@@ -7,4 +7,5 @@ pub mod Queries
 pub mod Cells
 pub mod Nearness
 pub mod Decided
+pub mod ManyPoints
 pub mod Examples

@@ -1,3 +1,4 @@
 pub mod Loss
 pub mod Nearest
 pub mod Acceptance
+pub mod Losses

@@ -1,5 +1,5 @@
 -- Document 01, "Loss at a point and nearest point": the cell of a point, and the weighted sum of the entries at its corners, rounded up once.
-use Rattle.std.specs.Prelude.{ℕ, zero, suc, ◌-◌, ◌*◌, Bool, ◌&&◌, cond, List, leb, ℤ, length, get_or}
+use Rattle.std.specs.Prelude.{ℕ, zero, suc, ◌+◌, ◌-◌, ◌*◌, ◌<◌, Bool, ◌&&◌, cond, List, leb, ℤ, length, get_or}
 use Rattle.arith.specs.Fraction.{whole}
 use Rattle.refusal.specs.Outcome.{Outcome, accepted, ◌>>=◌, require}
 use Rattle.grid.specs.Map.{counted_numbers, valid_map}
@@ -13,6 +13,10 @@ unfoldable pub last_up_to : (ℕ → Bool) → ℕ → ℕ
 last_up_to test zero = 0
 last_up_to test (suc n) = cond (test (suc n)) (suc n) (last_up_to test n)
 
+-- each number is below the next
+abbrev pub Rise : List ℕ → Type 0
+Rise ns = (k : ℕ) → k + 1 < length ns → get_or ns k 0 < get_or ns (k + 1) 0
+
 -- The lower neighbour of a value on an axis whose numbers count scale each: the last number at or below the value, but for the last of all; the first where the value is below all.
 unfoldable pub neighbour : List ℕ → (scale v : ℕ) → ℕ
 neighbour ns scale v = last_up_to (λ i. leb (scale * get_or ns i 0) v) (length ns - 2)
@@ -25,6 +29,10 @@ unfoldable pub loss_at : (speeds torques entries : List ℕ) → Point → ℤ
 loss_at speeds torques entries p =
     let k = cell_of speeds torques p in
     ceiling (sum speeds torques p k (corners (λ i j. whole (entry_at (length torques) entries i j)) k))
+
+-- the same on the axes of a grid
+abbrev pub map_loss : Grid → (entries : List ℕ) → Point → ℤ
+map_loss grid entries p = loss_at (counted_numbers grid.speeds) (counted_numbers grid.torques) entries p
 
 -- 22 is tested first, then 20, then 21
 unfoldable pub loss_answer : Grid → (entries : List ℕ) → Point → Outcome ℤ

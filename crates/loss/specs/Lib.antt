@@ -2,6 +2,7 @@
 pub mod PartAbove
 pub mod Standard
 pub mod Measured
+pub mod Rate
 pub mod SensorSteps
 pub mod Exact
 pub mod ExactCases

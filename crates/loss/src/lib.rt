@@ -7,6 +7,7 @@ ghost use Rattle.arith.specs.Fraction.{Same, ◌over◌};
 ghost use Rattle.refusal.specs.Table.{outcome_of, outcome_as};
 ghost use Rattle.sensor.specs.Sensor.{check_without_place, SensorRules};
 ghost use Rattle.loss.specs.Standard.{line_of, Usable, standard_entry};
+ghost use Rattle.loss.specs.Rate.{sensitivity_rate};
 ghost use Rattle.loss.specs.Measured.{grains_up, temperature_on_sensitivity, temperature_on_zero, calibration, parasitic_loads, fixed_parts, sensor_uncertainty, scaled_uncertainty, sum_of_squares, loss_uncertainty, allowance, LossSays, UncertaintyBounded, right_uncertainty, entry_of};
 ghost use Rattle.loss.specs.SensorSteps.{steps_at, steps_answer, StepsRoundedUp};
 
@@ -96,20 +97,22 @@ fn product(a: u16, b: u16, c: u32) -> u64
 }
 
 // The steps of a sensor's uncertainty, each rounded up to a grain: the four parts in the order of the annex (source document 002,
-// Annex VII, 4.4.6), then the root over them.
+// Annex VII, 4.4.6), then the root over them. a, which depends on the torque, is a method of `PreparedSensor`.
 
-// a: temperature on sensitivity, at a torque in hundredths; the annex's U_TKC times the root of 3.
-#[tactic(auto, unfolding(crate::specs::Measured::grains_up, crate::specs::Measured::temperature_on_sensitivity))]
-fn temperature_on_sensitivity(sensor: Sensor, torque: u32) -> u64
-    requires sensor { SensorRules sensor }
-    requires torque { torque ≤ 100 * sensor.nominal }
-    ensures part { result ≡ grains_up (temperature_on_sensitivity sensor torque) }
-    ensures bound { result ≤ 25000000 }
+// The rate at which a grows with the torque is in so many parts of a grain: 2^46, which is above any torque times the divisor of a,
+// so that rounding the rate down changes no a; it is reckoned in two steps of 2^23.
+const RATE_PARTS: u64 = 70_368_744_177_664;
+
+const RATE_STEP: u64 = 8_388_608;
+
+// The rate at a hundredth of Nm, rounded down.
+fn sensitivity_rate(sensor: Sensor) -> u64
+    requires { SensorRules sensor }
+    ensures { result ≡ sensitivity_rate sensor }
 {
-    rounded_up(
-        product(sensor.sensitivity, sensor.difference, torque),
-        100_000 * u64::from(sensor.span),
-    )
+    let n = RATE_STEP * product(sensor.sensitivity, sensor.difference, 1);
+    let d = 100_000 * u64::from(sensor.span);
+    n / d * RATE_STEP + n % d * RATE_STEP / d
 }
 
 // b: temperature on zero; U_TK0 times the root of 3.
@@ -190,8 +193,10 @@ fn fixed_parts(sensor: Sensor) -> FixedParts
 pub struct PreparedSensor {
     pub sensor: Sensor,
     fixed: FixedParts,
+    rate: u64,
     pub ghost rules: { SensorRules sensor },
     pub ghost own: { fixed ≡ fixed_parts sensor },
+    pub ghost own_rate: { rate ≡ sensitivity_rate sensor },
 }
 
 impl PreparedSensor {
@@ -204,10 +209,25 @@ impl PreparedSensor {
         Ok(PreparedSensor {
             sensor,
             fixed: fixed_parts(sensor),
+            rate: sensitivity_rate(sensor),
         })
     }
 
-    // The steps at a torque in hundredths, in the order of the annex. 7, at a place, where it is above the nominal torque.
+    // a: temperature on sensitivity, at a torque in hundredths, by the rate and so without a division; the annex's U_TKC times the
+    // root of 3.
+    #[tactic(auto, unfolding(crate::specs::Measured::grains_up, crate::specs::Measured::temperature_on_sensitivity))]
+    fn temperature_on_sensitivity(&self, torque: u32) -> u64
+        requires { torque ≤ 100 * self.now.sensor.nominal }
+        ensures part { result ≡ grains_up (temperature_on_sensitivity self.now.sensor torque) }
+        ensures bound { result ≤ 25000000 }
+    {
+        let parts = u128::from(self.rate) * u128::from(torque) + u128::from(RATE_PARTS - 1);
+        (parts / u128::from(RATE_PARTS)) as u64
+    }
+
+    // The steps at a torque in hundredths, in the order of the annex. 7, at a place, where it is above the nominal torque. (Inlined,
+    // so that no row of readings calls it for each sensor.)
+    #[inline(always)]
     pub fn steps(&self, torque: u32, place: usize) -> Result<Steps, Refusal>
         ensures answer { outcome_of result ≡ steps_at self.now.sensor torque place }
         ensures rounded_up { IfOk result (StepsRoundedUp self.now.sensor torque) }
@@ -216,7 +236,7 @@ impl PreparedSensor {
         if 100 * u32::from(self.sensor.nominal) < torque {
             return Err(Refusal::AboveNominal(place));
         }
-        let a = temperature_on_sensitivity(self.sensor, torque);
+        let a = self.temperature_on_sensitivity(torque);
         let b = self.fixed.temperature_on_zero;
         let g = self.fixed.calibration;
         let h = self.fixed.parasitic_loads;

@@ -58,7 +58,7 @@ entries_long c = length_joined (speed_entries c) (torque_count c) (length c.spee
 pub entries_at : (c : Component) (s j : ℕ) → s < length c.speeds → j < torque_count c → get_or (entries c) (s * torque_count c + j) 0 ≡ entry c s j
 unfolding entries speed_entries
 entries_at c s j h l =
-    joined_at (speed_entries c) (torque_count c) (length c.speeds) (λ i k. speed_long c i) s j h l ∙ tabulate_at (entry c s) (torque_count c) j l
+    joined_at (speed_entries c) (torque_count c) (length c.speeds) (λ i k. speed_long c i) s j h l ∙ tabulate_at (entry c s) (torque_count c) j 0 l
 
 -- the same where the count of torques is known by another name
 entries_by : (c : Component) (n s j : ℕ) → torque_count c ≡ n → s < length c.speeds → j < n → get_or (entries c) (s * n + j) 0 ≡ entry c s j

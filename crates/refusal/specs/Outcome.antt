@@ -1,17 +1,17 @@
--- What comes of a call in document 01's terms: a value, or a refusal with its number, its place and, where it is of a number of a field, that number's index. Steps are joined by `do`, so that the order of tests is the order of lines.
+-- What comes of a call in document 01's terms: a value, or a refusal with its number, its place and, where it is of one of several numbers or points, its index. Steps are joined by `do`, so that the order of tests is the order of lines.
 use Rattle.std.specs.Prelude.{ℕ, zero, suc, Bool, if◌then◌else◌, Option, Some, None}
 
--- a refusal as document 01 tells it, "Returned" and "Place given"; and where document 02, C-14, wants it, "which number of the field it was, from 0"
+-- a refusal as document 01 tells it, "Returned" and "Place given"; and where document 02, C-14, wants it, "which number of the field it was, from 0"; so of many points that are asked for at once, which point
 pub record Told : Type 0 where
   pub number : ℕ
   pub place : ℕ
   pub index : Option ℕ
 
--- the refusal of this number and place, which is of no number of a field
+-- the refusal of this number and place, which tells no index
 abbrev pub refusal : (number place : ℕ) → Told
 refusal number place = record { number = number; place = place; index = None }
 
--- and one that is of the number with this index in its field
+-- and one that is of the number, or the point, with this index
 abbrev pub refusal_with_index : (number place index : ℕ) → Told
 refusal_with_index number place index = record { number = number; place = place; index = Some index }
 

@@ -20,6 +20,7 @@ pub struct Reading<'a> {
 
 impl Reading<'_> {
     // The steps of its uncertainty, or 7; the torque is at a place of the data.
+    #[inline(always)]
     fn steps(self, place: usize) -> Result<Steps, Refusal>
         ensures answer { outcome_of result ≡ steps_at self.entry.sensor.now.sensor self.entry.torque place }
         ensures bounded { IfOk result UncertaintyBounded }

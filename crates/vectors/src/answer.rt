@@ -5,6 +5,7 @@ use crate::{bytes, print};
 use cell::Point;
 use component::Component;
 use grid::Grid;
+use lookup::LossesRefusal;
 use numbers::Numbers;
 use refusal::Refusal;
 use sensor::Sensor;
@@ -16,13 +17,16 @@ static LENT_ENTRIES: [u32; 2049] = [0xA5A5_A5A5; 2049];
 
 static LENT_BYTES: [u8; 65_536] = [0xA5; 65_536];
 
+// One more than a case has questions.
+static LENT_LOSSES: [i64; 256] = [-0x5A5A_5A5A; 256];
+
 // So many torques of rows can be written, and so many readings and bearing losses together be handed over.
 const MOST_TORQUES: usize = 8192;
 
 // Why a case is not answered, or not to its end.
 #[derive(Drop)]
 enum Fault {
-    // It lends or hands over more than there is room for, a lent map, numbers, a sensor or a retarder's numbers are not whole, or its letter is none of the eight.
+    // It lends or hands over more than there is room for, a lent map, numbers, a sensor or a retarder's numbers are not whole, or its letter is none of the nine.
     NoCase,
     Output(io::Error),
 }
@@ -51,6 +55,7 @@ fn write_whole(out: &mut impl Write, case: &Case) -> Result<(), Fault> {
         Kind::Steps => write_steps(out, case.body)?,
         Kind::Load => write_loading(out, case)?,
         Kind::Drag => write_drag(out, case.body)?,
+        Kind::Losses => write_losses(out, case)?,
     }
     Ok(())
 }
@@ -222,6 +227,36 @@ fn write_answer(
         Ok(point) => writeln!(out, "nearest {} {}", point.speed, point.torque)?,
         Err(refusal) => writeln!(out, "{refusal}")?,
     }
+    Ok(())
+}
+
+// The losses at all points of a lent map, asked in one call.
+fn write_losses(out: &mut impl Write, case: &Case) -> Result<(), Fault> {
+    let mut body = case.body;
+    let grid = bytes::next_grid(&mut body).ok_or(Fault::NoCase)?;
+    let mut entries = LENT_ENTRIES;
+    let map_entries = bytes::decode(body, &mut entries).ok_or(Fault::NoCase)?;
+    let mut points = [Point {
+        speed: 0,
+        torque: 0,
+    }; 255];
+    let asked = bytes::decode_points(case.questions, &mut points).ok_or(Fault::NoCase)?;
+    let mut losses = LENT_LOSSES;
+    let lent = losses.get_mut(..case.room).ok_or(Fault::NoCase)?;
+    let count = match lookup::losses(&grid, map_entries, asked, lent) {
+        Ok(()) => {
+            writeln!(out, "answered {}", asked.len())?;
+            for loss in losses.iter().take(asked.len()) {
+                writeln!(out, "loss {loss}")?;
+            }
+            asked.len()
+        }
+        Err(LossesRefusal { refusal, point }) => {
+            print::write_refusal_of_point(out, refusal, point)?;
+            0
+        }
+    };
+    write_kept(out, "losses", &losses, &LENT_LOSSES, count)?;
     Ok(())
 }
 

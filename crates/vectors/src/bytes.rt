@@ -1,4 +1,5 @@
 // Numbers taken from the front of bytes, most significant byte first. None where there are too few bytes.
+use cell::Point;
 use grid::{Axis, Grid};
 use numbers::Numbers;
 use sensor::Sensor;
@@ -69,4 +70,16 @@ pub fn decode<'a>(mut bytes: &[u8], room: &'a mut [u32]) -> Option<&'a [u32]> {
         *number = next_u32(&mut bytes)?;
     }
     Some(numbers)
+}
+
+// All the points there are, at the front of the room. None where there is too little room.
+pub fn decode_points<'a>(mut bytes: &[u8], room: &'a mut [Point]) -> Option<&'a [Point]> {
+    let points = room.get_mut(..bytes.len() / 8)?;
+    for point in points.iter_mut() {
+        *point = Point {
+            speed: next_u32(&mut bytes)?,
+            torque: next_u32(&mut bytes)?,
+        };
+    }
+    Some(points)
 }

@@ -12,6 +12,7 @@ pub enum Kind {
     Steps,
     Load,
     Drag,
+    Losses,
 }
 
 impl Kind {
@@ -26,6 +27,7 @@ impl Kind {
             b's' => Some(Kind::Steps),
             b'l' => Some(Kind::Load),
             b'd' => Some(Kind::Drag),
+            b'a' => Some(Kind::Losses),
             _ => None,
         }
     }
@@ -33,7 +35,7 @@ impl Kind {
 
 #[derive(Clone, Copy)]
 pub struct Head {
-    // None where the letter is none of the eight.
+    // None where the letter is none of the nine.
     kind: Option<Kind>,
     entries: u16,
     room: u32,
@@ -44,7 +46,7 @@ pub struct Head {
 #[derive(Clone, Copy)]
 pub struct Case<'a> {
     pub kind: Option<Kind>,
-    // How many entries are lent, and how many bytes.
+    // How many entries are lent, and how many bytes or losses.
     pub entries: usize,
     pub room: usize,
     pub body: &'a [u8],

@@ -1,8 +1,8 @@
 // Runs the libraries over cases given on standard input, and writes what they answer, so that it can be compared with another implementation.
 // A case is a head of 12 bytes, a body, and so many questions of 8 bytes (speed in tenths of rpm, torque in hundredths of Nm). All numbers are most significant byte first. The head:
-//   1 byte: r to read data into numbers, p for what the map program writes, b to build a map of data, m for a map as a caller may lend it, w to write data from numbers, s for the steps of a sensor, l to load a listing, d for the drag of a retarder;
+//   1 byte: r to read data into numbers, p for what the map program writes, b to build a map of data, m for a map as a caller may lend it, w to write data from numbers, s for the steps of a sensor, l to load a listing, d for the drag of a retarder, a for all questions to a lent map in one call;
 //   2 bytes: how many entries are lent;
-//   4 bytes: how many bytes are lent for the listing, or for the file that is written;
+//   4 bytes: how many bytes are lent for the listing, or for the file that is written, or how many losses;
 //   4 bytes: the length of the body: data, a lent map, numbers to be written, a sensor with its torque, the text of a listing, or a retarder's numbers;
 //   1 byte: how many questions follow the body.
 // A lent map is its axes, which are the count of speeds and the count of torques, 8 bytes each, and the 32 speeds and 64 torques of 2 bytes; then the lent entries of 4 bytes.

@@ -40,6 +40,18 @@ pub fn write_refusal_with_index(out: &mut impl Write, refusal: Refusal) -> io::R
     }
 }
 
+// A refusal, and which point it is of where it is of one.
+pub fn write_refusal_of_point(
+    out: &mut impl Write,
+    refusal: Refusal,
+    point: Option<usize>,
+) -> io::Result<()> {
+    match point {
+        Some(point) => writeln!(out, "{refusal} point {point}"),
+        None => writeln!(out, "{refusal}"),
+    }
+}
+
 fn write_numbers(out: &mut impl Write, name: &str, numbers: &[u16]) -> io::Result<()> {
     write!(out, " {name}{}", Spaced(numbers))
 }

@@ -1,8 +1,9 @@
-//! Document 01's worked cases and boundaries, and those of requests C-11 to C-17, over the public interface.
+//! Document 01's worked cases and boundaries, those of requests C-11 to C-17, and those of many questions in one call, over the public interface.
 
 mod exactness;
 mod half_shafts;
 mod loads;
+mod losses;
 mod queries;
 mod reckoned;
 mod refusals;

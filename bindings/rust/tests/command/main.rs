@@ -4,6 +4,7 @@ mod answers;
 mod drag;
 mod examples;
 mod load;
+mod losses;
 #[path = "../parsed/mod.rs"]
 mod parsed;
 mod steps;

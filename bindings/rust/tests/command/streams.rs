@@ -3,6 +3,7 @@
 use super::*;
 use std::ffi::OsString;
 use std::fs::File;
+use std::io::ErrorKind;
 use std::os::unix::ffi::OsStringExt;
 use std::os::unix::io::OwnedFd;
 use std::os::unix::net::UnixStream;
@@ -14,7 +15,7 @@ fn writable(name: &str) -> File {
 
 #[test]
 fn files_that_cannot_be_read() {
-    for word in ["list", "check", "load", "write"] {
+    for word in ["list", "losses", "check", "load", "write"] {
         let missing = "axle: cannot read \"missing.axle\": No such file";
         assert_failed_with(run([word, "missing.axle"]), 2, missing);
         assert_failed_with(run([word, "."]), 2, "axle: cannot read \".\": Is a dir");
@@ -29,9 +30,15 @@ fn files_that_cannot_be_read() {
 
 #[test]
 fn standard_input_that_cannot_be_read() {
-    for word in ["list", "load", "write"] {
+    let calls = [
+        ["list", "-"],
+        ["load", "-"],
+        ["write", "-"],
+        ["losses", STANDARD],
+    ];
+    for call in calls {
         for stream in [File::open(".").expect("opened"), writable("/dev/null")] {
-            let output = axle([word, "-"]).stdin(stream).output().expect("it runs");
+            let output = axle(call).stdin(stream).output().expect("it runs");
             assert_failed_with(output, 2, "axle: cannot read standard input: ");
         }
     }
@@ -40,17 +47,18 @@ fn standard_input_that_cannot_be_read() {
 /// Data that is whole so far is not taken where the next read fails.
 #[test]
 fn a_read_that_fails_after_some_data() {
+    let example = |name: &str| std::fs::read(examples_folder().join(name)).expect("read");
     let calls = [
-        ("list", STANDARD),
-        ("load", "standard.csv"),
-        ("write", "standard.numbers"),
+        (["list", "-"], example(STANDARD)),
+        (["load", "-"], example("standard.csv")),
+        (["write", "-"], example("standard.numbers")),
+        (["losses", STANDARD], b"100 500\n".to_vec()),
     ];
-    for (word, file) in calls {
+    for (call, data) in calls {
         let (mut written, read) = UnixStream::pair().expect("a pair");
         read.set_nonblocking(true).expect("set");
-        let data = std::fs::read(examples_folder().join(file)).expect("read");
         written.write_all(&data).expect("room for it");
-        let mut command = axle([word, "-"]);
+        let mut command = axle(call);
         let output = command
             .stdin(OwnedFd::from(read))
             .output()
@@ -61,11 +69,15 @@ fn a_read_that_fails_after_some_data() {
     }
 }
 
+/// Each call has a question on standard input; `losses` reads it.
 #[test]
 fn output_that_cannot_be_written() {
-    let calls: [&[&str]; 8] = [
+    let questions = PathBuf::from(env!("CARGO_TARGET_TMPDIR")).join("a-question");
+    std::fs::write(&questions, "100 500\n").expect("written");
+    let calls: [&[&str]; 9] = [
         &["list", STANDARD],
         &["loss", STANDARD, "100", "0"],
+        &["losses", STANDARD],
         &["nearest", STANDARD, "100", "0"],
         &["check", STANDARD],
         &["load", "standard.csv"],
@@ -79,23 +91,31 @@ fn output_that_cannot_be_written() {
             (File::open("/dev/null").expect("opened"), "Bad file desc"),
         ];
         for (stream, reason) in streams {
-            let output = axle(call).stdout(stream).output().expect("it runs");
+            let input = File::open(&questions).expect("opened");
+            let mut command = axle(call);
+            let output = command.stdin(input).stdout(stream).output();
             let message = format!("axle: cannot write standard output: {}", reason);
-            assert_failed_with(output, 2, &message);
+            assert_failed_with(output.expect("it runs"), 2, &message);
         }
     }
+    std::fs::remove_file(questions).expect("removed");
+}
+
+/// A stream whose other end is closed. A child of another test may hold that end until it runs its program: the stream is written to until no one does.
+fn unread_stream() -> UnixStream {
+    let (mut written, read) = UnixStream::pair().expect("a pair");
+    drop(read);
+    let mut writes = std::iter::repeat_with(|| written.write_all(b"\n"));
+    let failure = writes.find_map(Result::err).expect("it fails");
+    assert_eq!(failure.kind(), ErrorKind::BrokenPipe);
+    written
 }
 
 #[test]
 fn a_closed_pipe() {
-    let mut command = axle(["list", "-"]);
-    let mut child = command.stdin(Stdio::piped()).spawn().expect("it runs");
-    drop(child.stdout.take());
-    let data = std::fs::read(examples_folder().join(STANDARD)).expect("read");
-    let mut input = child.stdin.take().expect("a pipe");
-    input.write_all(&data).expect("it reads");
-    drop(input);
-    let output = child.wait_with_output().expect("it ends");
+    let mut command = axle(["list", STANDARD]);
+    let stream = OwnedFd::from(unread_stream());
+    let output = command.stdout(stream).output().expect("it runs");
     let message = "axle: cannot write standard output: Broken pipe";
     assert_failed_with(output, 2, message);
 }
@@ -117,7 +137,13 @@ fn streams_that_are_closed() {
         assert_failed(run_closed(words, ">&-"), 2, closed);
     }
     let closed = "axle: cannot read standard input: it is closed\n";
-    for words in ["check -", "load -", "load --list -", "write -"] {
+    for words in [
+        "check -",
+        "load -",
+        "load --list -",
+        "write -",
+        "losses standard.axle",
+    ] {
         assert_failed(run_closed(words, "<&-"), 2, closed);
     }
     let listing = std::fs::read_to_string(examples_folder().join("standard.csv")).expect("read");

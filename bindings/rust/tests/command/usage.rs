@@ -10,6 +10,7 @@ fn help() {
     for word in [
         "axle list FILE ",
         "axle loss FILE SPEED TORQUE ",
+        "axle losses FILE ",
         "axle nearest FILE SPEED TORQUE ",
         "axle check FILE ",
         "axle load LISTING ",
@@ -53,7 +54,7 @@ fn assert_wrong_usage(arguments: &[&str], what: &str, usage: &str) {
 
 #[test]
 fn no_command() {
-    let usage = "axle list|loss|nearest|check|load|write|steps|drag .., or axle --help";
+    let usage = "axle list|loss|losses|nearest|check|load|write|steps|drag .., or axle --help";
     assert_wrong_usage(&[], "no command given", usage);
     assert_wrong_usage(&["lists"], "unknown command \"lists\"", usage);
     assert_wrong_usage(&["", STANDARD], "unknown command \"\"", usage);
@@ -92,6 +93,7 @@ fn unknown_options() {
         what,
         "axle nearest FILE SPEED TORQUE",
     );
+    assert_wrong_usage(&["losses", "-x"], what, "axle losses FILE");
     assert_wrong_usage(&["write", "-x"], what, "axle write NUMBERS");
     assert_wrong_usage(&["load", "-x"], what, "axle load LISTING");
     assert_wrong_usage(&["load", "--list", "-x"], what, "axle load --list LISTING");

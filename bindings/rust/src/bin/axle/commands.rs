@@ -2,8 +2,11 @@
 
 use crate::failure::Failure;
 use crate::listings;
-use crate::numbers::{hundredths, short, Quantity, BEARING_LOSSES, RATIO, READINGS, SPEED, TORQUE};
+use crate::numbers::{
+    lines_of_hundredths, short, Quantity, BEARING_LOSSES, RATIO, READINGS, SPEED, TORQUE,
+};
 use crate::numbers_text;
+use crate::questions;
 use crate::sensors;
 use crate::streams;
 use axle::{Map, Sensor};
@@ -18,6 +21,8 @@ pub struct Command {
     pub name: &'static str,
     pub arguments: &'static [&'static str],
     pub help: &'static str,
+    /// Whether it reads questions from standard input, which is then not its FILE too.
+    questions_on_input: bool,
     function: fn(&[OsString]) -> Result<Vec<u8>, Failure>,
 }
 
@@ -26,54 +31,70 @@ pub const COMMANDS: &[Command] = &[
         name: "list",
         arguments: &["FILE"],
         help: "the listing of the map",
+        questions_on_input: false,
         function: list,
     },
     Command {
         name: "loss",
         arguments: &["FILE", "SPEED", "TORQUE"],
         help: "the loss at a point, in Nm",
+        questions_on_input: false,
         function: loss,
+    },
+    Command {
+        name: "losses",
+        arguments: &["FILE"],
+        help: "the losses at the points of standard input, in Nm",
+        questions_on_input: true,
+        function: losses,
     },
     Command {
         name: "nearest",
         arguments: &["FILE", "SPEED", "TORQUE"],
         help: "the nearest grid point: rpm,Nm",
+        questions_on_input: false,
         function: nearest,
     },
     Command {
         name: "check",
         arguments: &["FILE"],
         help: "whether the data is accepted, and its axes",
+        questions_on_input: false,
         function: check,
     },
     Command {
         name: "load",
         arguments: &["LISTING"],
         help: "whether a listing is taken in, and its axes",
+        questions_on_input: false,
         function: load,
     },
     Command {
         name: "load --list",
         arguments: &["LISTING"],
         help: "the listing of the map that a listing says",
+        questions_on_input: false,
         function: load_and_list,
     },
     Command {
         name: "write",
         arguments: &["NUMBERS"],
         help: "the component data that says these numbers",
+        questions_on_input: false,
         function: write,
     },
     Command {
         name: "steps",
         arguments: &STEPS_ARGUMENTS,
         help: "the steps of a sensor's uncertainty, in grains",
+        questions_on_input: false,
         function: steps,
     },
     Command {
         name: "drag",
         arguments: &[RATIO.name, SPEED.name, READINGS.name, BEARING_LOSSES.name],
         help: "the drag of a retarder, in Nm",
+        questions_on_input: false,
         function: drag,
     },
 ];
@@ -121,7 +142,9 @@ impl Command {
         match arguments.len().cmp(&self.arguments.len()) {
             Ordering::Less => Some(format!("too few arguments for {}", self.name)),
             Ordering::Greater => Some(format!("too many arguments for {}", self.name)),
-            Ordering::Equal => self.option_fault(arguments),
+            Ordering::Equal => self
+                .option_fault(arguments)
+                .or_else(|| self.input_fault(arguments)),
         }
     }
 
@@ -133,6 +156,17 @@ impl Command {
         file.push(option);
         Some(format!(
             "unknown option {option:?}; a file of this name is given as {file:?}"
+        ))
+    }
+
+    /// Data and questions do not come from one standard input.
+    fn input_fault(&self, arguments: &[OsString]) -> Option<String> {
+        if !self.questions_on_input || arguments[0] != "-" {
+            return None;
+        }
+        Some(format!(
+            "FILE of {} cannot be -: standard input has the questions",
+            self.name
         ))
     }
 }
@@ -157,7 +191,17 @@ fn loss(arguments: &[OsString]) -> Result<Vec<u8>, Failure> {
     let speed = SPEED.number(&arguments[1])?;
     let torque = TORQUE.number(&arguments[2])?;
     let loss = map(&arguments[0])?.loss(speed, torque)?;
-    Ok(format!("{}\n", hundredths(loss)).into_bytes())
+    Ok(lines_of_hundredths(&[loss]))
+}
+
+/// The data comes first: where it is refused, no questions are waited for.
+fn losses(arguments: &[OsString]) -> Result<Vec<u8>, Failure> {
+    let map = map(&arguments[0])?;
+    let text = streams::read_questions()?;
+    let points = questions::points(&text)?;
+    let losses = map.losses(&points);
+    let losses = losses.map_err(|refused| questions::failure(&text, &refused))?;
+    Ok(lines_of_hundredths(&losses))
 }
 
 fn nearest(arguments: &[OsString]) -> Result<Vec<u8>, Failure> {
@@ -246,5 +290,5 @@ fn drag(arguments: &[OsString]) -> Result<Vec<u8>, Failure> {
     let readings = READINGS.list(&arguments[2])?;
     let bearing_losses = BEARING_LOSSES.list(&arguments[3])?;
     let drag = axle::retarder_drag(&readings, &bearing_losses, ratio, speed)?;
-    Ok(format!("{}\n", hundredths(i64::from(drag))).into_bytes())
+    Ok(lines_of_hundredths(&[i64::from(drag)]))
 }

@@ -12,6 +12,8 @@ pub enum Failure {
     },
     /// The library refused a listing: what was wrong and in which line.
     NotLoaded { refusal: Refusal, words: String },
+    /// The library refused a question, and the line of standard input that it stands in.
+    QuestionRefused { refusal: Refusal, line: usize },
     /// Something could not be read or written, or is not allowed as an argument or in a text.
     Failed(String),
     /// Other arguments than those of a command: what is wrong, and the usage.
@@ -21,7 +23,9 @@ pub enum Failure {
 impl Failure {
     pub fn status(&self) -> u8 {
         match self {
-            Failure::Refused { .. } | Failure::NotLoaded { .. } => 1,
+            Failure::Refused { .. }
+            | Failure::NotLoaded { .. }
+            | Failure::QuestionRefused { .. } => 1,
             Failure::Failed(_) | Failure::WrongUsage { .. } => 2,
         }
     }
@@ -47,6 +51,9 @@ impl fmt::Display for Failure {
             Failure::NotLoaded { refusal, words } => {
                 let Refusal { number, place, .. } = refusal;
                 write!(f, "axle: refused {number} at {place}: {words}")
+            }
+            Failure::QuestionRefused { refusal, line } => {
+                write!(f, "axle: {refusal}, line {line} of standard input")
             }
             Failure::Failed(message) => write!(f, "axle: {message}"),
             Failure::WrongUsage { message, usage } => write!(f, "axle: {message}\nusage: {usage}"),

@@ -11,7 +11,8 @@ usage:
 ";
 
 const DETAILS: &str = "
-FILE     component data; - for standard input; ./-name for a name that begins with -
+FILE     component data; - for standard input, but not of losses; ./-name for a name that
+         begins with -
 SPEED    speed at the wheel in rpm, at most one digit after the point; of drag, the speed
          of the retarder's drive
 TORQUE   torque at the wheel in Nm, at most two digits after the point; of steps, the
@@ -27,6 +28,12 @@ READINGS, BEARING_LOSSES
          measured of the retarder as a stand-alone unit, and what the rig's bearings took
          of it; both at the first 2 to 13 of the points 200, 400, 600, 900, 1200, 1600,
          2000, 2500, 3000, 3500, 4000, 4500 and 5000 rpm, as many as there are
+
+The standard input of losses has a question on each line: SPEED and TORQUE, set apart by
+spaces or tabs. Blanks at both ends of a line are not looked at; a line of blanks alone
+asks nothing, but is counted. The last line may do without its line feed. The losses are
+printed a line each, in the order of the questions. Where one is refused, or is not two
+such numbers, nothing is printed and its line is told, counted from 1.
 
 A line of NUMBERS is one of these words with its numbers, set apart by blanks. Each
 word stands once, in any order, but for row. Lines that are empty or begin with # are
@@ -52,7 +59,7 @@ the retarder's speed, SPEED times RATIO, is below 200 rpm or above the last poin
 has a reading.
 
 Answers go to standard output, refusals and failures to standard error.
-Status 0: answered. Status 1: the data, the listing, the numbers or the question is
+Status 0: answered. Status 1: the data, the listing, the numbers or a question is
 refused.
 Status 2: something could not be read or written, or wrong usage.
 
@@ -60,6 +67,7 @@ examples, in the folder examples:
   axle list standard.axle > map.csv
   axle loss standard.axle 100.0 500.00   prints 140.21
   axle loss measured.axle 100 500        prints -41.25
+  echo 100.0 500.00 | axle losses standard.axle
   axle nearest standard.axle 150.1 500   prints 200,0
   axle check - < standard.axle
   axle load standard.csv

@@ -7,6 +7,7 @@ mod help;
 mod listings;
 mod numbers;
 mod numbers_text;
+mod questions;
 mod sensors;
 mod streams;
 

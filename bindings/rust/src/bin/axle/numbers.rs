@@ -2,6 +2,7 @@
 
 use crate::failure::Failure;
 use std::ffi::OsStr;
+use std::fmt::Write;
 use std::os::unix::ffi::OsStrExt;
 
 /// A number as it is typed: what it is called, what it is, and the digits after the point.
@@ -81,7 +82,7 @@ impl Quantity {
     }
 
     /// The number. What is wrong where the text is none, or one that is too large.
-    fn parsed(&self, text: &OsStr) -> Result<u32, String> {
+    pub fn parsed(&self, text: &OsStr) -> Result<u32, String> {
         let number = self.scaled(text);
         number.map_err(|fault| self.message(text, fault))
     }
@@ -136,9 +137,14 @@ pub fn short(number: u32) -> u16 {
     u16::try_from(number).unwrap_or(u16::MAX)
 }
 
-/// Hundredths as a number with two digits after the point.
-pub fn hundredths(number: i64) -> String {
-    let sign = if number < 0 { "-" } else { "" };
-    let size = number.unsigned_abs();
-    format!("{sign}{}.{:02}", size / 100, size % 100)
+/// Hundredths as numbers with two digits after the point, a line each.
+pub fn lines_of_hundredths(numbers: &[i64]) -> Vec<u8> {
+    let mut lines = String::new();
+    for number in numbers {
+        let sign = if *number < 0 { "-" } else { "" };
+        let size = number.unsigned_abs();
+        let written = writeln!(lines, "{sign}{}.{:02}", size / 100, size % 100);
+        written.expect("a String takes every text");
+    }
+    lines.into_bytes()
 }

@@ -30,6 +30,9 @@ const LONGEST_TEXT: usize = 1_048_576;
 /// No listing need be longer: without blanks at the ends of its lines it has at most 65,536 bytes.
 const LONGEST_LISTING: usize = 67_108_864;
 
+/// More than ten million questions. Input that does not end is told before it has taken all memory.
+const LONGEST_QUESTIONS: usize = 268_435_456;
+
 /// Component data, up to the library's limit.
 pub fn read_data(name: &OsStr) -> Result<Vec<u8>, Failure> {
     read(name, axle::READING_LIMIT)
@@ -44,6 +47,11 @@ pub fn read_text(name: &OsStr) -> Result<String, Failure> {
 /// A listing, whatever its bytes are.
 pub fn read_listing(name: &OsStr) -> Result<Vec<u8>, Failure> {
     read_whole(name, LONGEST_LISTING)
+}
+
+/// The questions on standard input, whatever their bytes are.
+pub fn read_questions() -> Result<Vec<u8>, Failure> {
+    read_whole(OsStr::new("-"), LONGEST_QUESTIONS)
 }
 
 /// A text, which is read whole or not at all.

@@ -1,42 +1,40 @@
 -- `lookup::ScaledAxis::nearest` meets its contract. Assumes nothing.
-use Rattle.std.proofs.Common.{◌≡◌, ℕ, ◌+◌, ◌*◌, ◌<◌, ◌≤◌, List, ◌-◌, length, get_or, take, drop, add-one, arith}
-use Rattle.std.proofs.lemmas.Grind.{common_steps}
-use Rattle.std.proofs.lemmas.Bool.Decides.{nat_tests}
-use borrow.Author.Tests.{lt-ltb, le-ltb}
-use Rattle.lookup.specs.Nearest.{distance, nearest_index, nearest_number}
+use Rattle.std.proofs.Common.{◌+◌, ◌<◌, length, arith}
+use Rattle.lookup.proofs.Axes.{Rising, neighbour_in}
+use Rattle.lookup.proofs.Nearness.{lower_is_nearest, upper_is_nearest}
 use Rattle.lookup.proofs.ScaledAxis.nearest.Goals as goal
-use Rattle.lookup.proofs.ScaledAxis.nearest.Goals.{then-d-least, else-d-least}
+use Rattle.lookup.proofs.ScaledAxis.nearest.Goals.{After-neighbour-i}
 
--- by the distances: d that of number i, least that of the nearest before it
-module _ (ns : List ℕ) (scale v i nearest d least : ℕ) (e : nearest ≡ get_or ns (nearest_index ns scale v i) 0) (p : d ≡ distance (scale * get_or ns i 0) v) (q : least ≡ distance (scale * nearest) v) where
-  nearer : d < least → get_or ns i 0 ≡ get_or ns (nearest_index ns scale v (i + 1)) 0
-  unfolding nearest_index
-  nearer l = rw (add-one, ← e, ← p, ← q, lt-ltb _ _ l)
+rising : (c : After-neighbour-i) → Rising c.args.self.now.numbers.now
+rising c = record { two = c.args.self.now.two; rises = c.args.self.now.rising }
 
-  not_nearer : least ≤ d → nearest ≡ get_or ns (nearest_index ns scale v (i + 1)) 0
-  unfolding nearest_index
-  not_nearer l = rw (add-one, ← e, ← p, ← q, le-ltb _ _ l) e
+-- both neighbours are there
+there : (c : After-neighbour-i) → c.neighbour-i.result + 1 < length c.args.self.now.numbers.now
+there c = rw c.neighbour-i.ensures (neighbour_in _ c.args.self.now.scale c.args.v (rising c))
 
--- a number of those past the first
-later : (ns : List ℕ) (k : ℕ) → k + 1 < length ns → get_or (take (length ns - 1) (drop 1 ns)) k 0 ≡ get_or ns (k + 1) 0
-later ns k l = grind (arith, common_steps)
+pub bounds-self-i : goal.bounds-self-i
+bounds-self-i c = omega (arith, there (goal.at.bounds-self-i c).After-neighbour-i)
 
-pub loop-number-init : goal.loop-number-init
-unfolding nearest_index
-loop-number-init c = grind (arith, common_steps, nat_tests)
+pub overflow_add-upper : goal.overflow_add-upper
+overflow_add-upper c = omega (arith, there (goal.at.overflow_add-upper c).After-neighbour-i, c.args.self.now.few)
 
-pub loop-number-preserved : goal.loop-number-preserved
-loop-number-preserved c =
-    let s = c.loop-number.invariant in
-    let same = later c.args.self.now.numbers.now c.loop-number.number-index (omega arith) in
-    let d = rw same at c.distance-d.ensures in
-    elim c.if-d-least.branch [
-      | then-d-least w ↦ rw (w.nearest-is, w.least-is, same) (nearer _ _ _ _ _ _ _ s.0 d s.1 w.if-d-least.true, d)
-      | else-d-least w ↦ rw (w.nearest-is, w.least-is) (not_nearer _ _ _ _ _ _ _ s.0 d s.1 w.if-d-least.false, s.1)
-    ]
+pub bounds-self-i-2 : goal.bounds-self-i-2
+bounds-self-i-2 c = there (goal.at.bounds-self-i-2 c).After-neighbour-i
 
-pub returns : goal.returns
-unfolding nearest_number
-returns c =
-    let e : c.loop-number.number-index + 1 ≡ length c.args.self.now.numbers.now = omega (arith, c.args.self.now.two) in
-    rw (← e) c.loop-number.invariant.0
+pub returns-then-distance : goal.returns-then-distance
+returns-then-distance c =
+    let axis = rising (goal.at.returns-then-distance c).After-neighbour-i in
+    let nearer = c.if-distance.true in
+    rw c.neighbour-i.ensures (upper_is_nearest _ axis _ c.args.v c.args.self.now.positive (rw (← c.neighbour-i.ensures, ← c.distance.ensures, ← c.distance-2.ensures) nearer))
+
+pub returns-else-distance : goal.returns-else-distance
+returns-else-distance c =
+    let axis = rising (goal.at.returns-else-distance c).After-neighbour-i in
+    let nearer = c.if-distance.false in
+    rw c.neighbour-i.ensures (lower_is_nearest _ axis _ c.args.v c.args.self.now.positive (rw (← c.neighbour-i.ensures, ← c.distance.ensures, ← c.distance-2.ensures) nearer))
+
+pub offset_bounds-self-i : goal.offset_bounds-self-i
+offset_bounds-self-i c = omega (arith, there (goal.at.offset_bounds-self-i c).After-neighbour-i, c.args.self.now.few)
+
+pub offset_bounds-self-i-2 : goal.offset_bounds-self-i-2
+offset_bounds-self-i-2 c = omega (arith, there (goal.at.offset_bounds-self-i-2 c).After-neighbour-i, c.args.self.now.few)
