@@ -1,11 +1,11 @@
--- How the quotient rounded up is found. Assumes nothing.
+-- How the quotient rounded up is found, and that quotients keep the order. Assumes nothing.
 use Prim.Native.Nat.{ℕ, suc, ◌+◌, ◌*◌, ◌-◌, ◌/◌, ◌%◌, ◌<◌, ◌≤◌}
 use mathlib.Core.Path.{◌≡◌, ap}
 use native.Mathlib.Omega.{arith, by_contra}
 use native.Mathlib.Nat.{div-mul-le_self, lt-div-mul-add, mul-le-mul_left, mul-le-mul_right}
 use Rattle.std.specs.Int.{div_ceil}
 use Rattle.std.proofs.lemmas.Grind.{div_ceil_times}
-use Rattle.arith.specs.Quotient.{quotient_up, QuotientUp, quotient_up_law, quotient_up_unique, quotient_down_unique}
+use Rattle.arith.specs.Quotient.{quotient_up, quotient_down, QuotientUp, quotient_up_law, quotient_down_law, quotient_up_unique, quotient_down_unique, quotient_down_greatest}
 
 -- the number that obeys the law is the quotient
 pub is_quotient_up : {n d q : ℕ} → 0 < d → QuotientUp n d q → q ≡ quotient_up n d
@@ -18,6 +18,9 @@ div_ceil_is_quotient_up n d h = let b = div_ceil_times n d h in is_quotient_up h
 -- the quotient of the sum with one less than the divisor, rounded down
 pub quotient_up_sum : (n d : ℕ) → 0 < d → (n + (d - 1)) / d ≡ quotient_up n d
 quotient_up_sum n d h = is_quotient_up h (record { not_below = omega (arith, lt-div-mul-add {a = n + (d - 1)} h); near = omega (arith, div-mul-le_self (n + (d - 1)) d) })
+
+pub quotient_down_monotone : (m n d : ℕ) → 0 < d → m ≤ n → quotient_down m d ≤ quotient_down n d
+quotient_down_monotone m n d h l = quotient_down_greatest (quotient_down_law n d h) (quotient_down m d) (omega (arith, (quotient_down_law m d h).not_above))
 
 -- n / d in two steps, a scale at a time
 pub quotient_in_steps : (n d scale : ℕ) → 0 < d → n / d * scale + n % d * scale / d ≡ n * scale / d

@@ -5,7 +5,7 @@ use mathlib.Core.Bool.{Bool, true, false}
 use native.Mathlib.Omega.{arith, by_contra, pred_cases}
 use lib.Dec.{leb, ltb}
 use borrow.Author.Tests.{ltb-true, ltb-false, leb-true, leb-false}
-use Rattle.arith.specs.Root.{RootUp, RootDown, bisection, root_up, root_down, root_up_unique}
+use Rattle.arith.specs.Root.{RootUp, RootDown, bisection, root_up, root_down, root_up_unique, root_down_unique}
 use Rattle.arith.proofs.Squares.{square_at_most, square_below}
 
 -- the next number after one whose square is too small is the root, where its square is enough
@@ -45,6 +45,9 @@ root_up_law (suc n) = bisection_law (suc n) (suc n) 0 (suc n) (omega arith) (ome
 pub is_root_up : {n r : ℕ} → RootUp n r → r ≡ root_up n
 is_root_up {n} p = root_up_unique p (root_up_law n)
 
+pub root_of_zero : (n : ℕ) → n ≡ 0 → 0 ≡ root_up n
+root_of_zero n e = is_root_up (record { enough = omega arith; least = λ r h. omega arith })
+
 pub next_is_root_up : (n low high : ℕ) → low * low < n → n ≤ high * high → high ≤ suc low → high ≡ root_up n
 next_is_root_up n low high a b c = is_root_up (next_is_root n low high a b c)
 
@@ -79,3 +82,11 @@ root_down_law n =
           not_above = by_contra (j * j) n (λ l. omega (arith, r.least j (omega arith)));
           greatest = λ s h. by_contra s j (λ l. let m : k ≤ s = omega arith in omega (arith, r.enough, square_at_most m));
         }
+
+-- a larger number has too large a square
+pub square_above_root : {n r : ℕ} → RootDown n r → (s : ℕ) → r < s → n < s * s
+square_above_root {n} p s l = by_contra _ _ (λ h. omega (arith, p.greatest s (omega arith)))
+
+-- the number that obeys the law is the root
+pub is_root_down : {n r : ℕ} → RootDown n r → r ≡ root_down n
+is_root_down {n} p = root_down_unique p (root_down_law n)

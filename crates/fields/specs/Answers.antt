@@ -1,5 +1,5 @@
 -- What the answers about a field say in document 01's terms.
-use Rattle.std.specs.Prelude.{ℕ, Bool, List, ◌≡◌}
+use Rattle.std.specs.Prelude.{ℕ, Bool, List, ◌≡◌, take}
 use Rattle.std.specs.Borrow.{Bor}
 use Rattle.refusal.specs.Outcome.{Told, refusal}
 use Rattle.grid.specs.Map.{counted_numbers}
@@ -44,3 +44,7 @@ pub record Due {A : Type 0} (cursor : Cursor) (tag : ℕ) (field : FieldRead A) 
 -- an axis is its numbers as far as they are counted
 abbrev pub axis_field_of : {places : ℕ} → FieldRead (Axis places) → Field (List ℕ)
 axis_field_of field = record { value = counted_numbers field.value; start = field.start; next = field.next.at }
+
+-- the numbers of an axis that were written to the first of the lent places
+abbrev pub axis_numbers_of : (places : List ℕ) → FieldRead ℕ → Field (List ℕ)
+axis_numbers_of places field = record { value = take field.value places; start = field.start; next = field.next.at }

@@ -6,7 +6,7 @@ ghost use Rattle.refusal.specs.Table.{told, outcome_of, outcome_as};
 ghost use Rattle.fields.specs.Bytes.{number_of, pairs, between};
 ghost use Rattle.fields.specs.Field.{head, field, exactly, numbers as numbers_from, number, axis};
 ghost use Rattle.fields.specs.Sensor.{sensor};
-ghost use Rattle.fields.specs.Answers.{allowed_of, head_of, number_bytes, outside_of, field_of, Due, axis_field_of};
+ghost use Rattle.fields.specs.Answers.{allowed_of, head_of, number_bytes, outside_of, field_of, Due, axis_field_of, axis_numbers_of};
 
 use grid::{Axis, Range};
 use refusal::Refusal;
@@ -216,17 +216,40 @@ impl<'a> Cursor<'a> {
         Ok(found.with_value(value))
     }
 
+    // The field of axis numbers, from two to as many as places are lent. They are written to the first of these, and the value is
+    // how many there are. What a refusal leaves there is not said.
+    pub fn axis_numbers(
+        self,
+        tag: u8,
+        range: Range,
+        numbers: &mut [u16],
+    ) -> Result<Field<'a, usize>, Refusal>
+        ensures answer { outcome_as (axis_numbers_of numbers.new) result ≡ field self.entry.data.now self.entry.at tag (numbers_from 2 (length numbers.old)) (axis range) }
+        ensures due { IfOk result (λ field. Due self.entry tag field) }
+        ensures count_within { IfOk result (λ field. (2 ≤ field.value) × (field.value ≤ length numbers.old)) }
+    {
+        let found = self.field(tag, Allowed::Numbers(2, numbers.len()))?;
+        read_numbers(found.value, found.start, range, numbers)?;
+        Ok(found.with_value(found.value.len() / 2))
+    }
+
     // The field of an axis, of two numbers to as many as the axis has places.
     pub fn axis<const N: usize>(self, tag: u8, range: Range) -> Result<Field<'a, Axis<N>>, Refusal>
         ensures answer { outcome_as axis_field_of result ≡ field self.entry.data.now self.entry.at tag (numbers_from 2 N) (axis range) }
         ensures due { IfOk result (λ field. Due self.entry tag field) }
         ensures count_within { IfOk result (λ field. (2 ≤ field.value.count) × (field.value.count ≤ N)) }
     {
-        let found = self.field(tag, Allowed::Numbers(2, N))?;
         let mut numbers = [0; N];
-        read_numbers(found.value, found.start, range, &mut numbers)?;
-        let count = found.value.len() / 2;
-        Ok(found.with_value(Axis { numbers, count }))
+        let found = self.axis_numbers(tag, range, &mut numbers)?;
+        Ok(Field {
+            kind: found.kind,
+            value: Axis {
+                numbers,
+                count: found.value,
+            },
+            start: found.start,
+            next: found.next,
+        })
     }
 
     // The field of a sensor.

@@ -12,8 +12,11 @@ use sensor::Sensor;
 use std::io;
 use std::io::{Cursor, Write};
 
-// What may be lent, as it is before: one entry more than the largest map has.
-static LENT_ENTRIES: [u32; 2049] = [0xA5A5_A5A5; 2049];
+// One entry more may be lent than the largest map has.
+pub const ENTRIES: usize = 2049;
+
+// What may be lent, as it is before.
+static LENT_ENTRIES: [u32; ENTRIES] = [0xA5A5_A5A5; ENTRIES];
 
 static LENT_BYTES: [u8; 65_536] = [0xA5; 65_536];
 
@@ -37,20 +40,26 @@ impl From<io::Error> for Fault {
     }
 }
 
-pub fn write(out: &mut impl Write, case: &Case) -> io::Result<()> {
-    match write_whole(out, case) {
+// The answers to a case. The entries are those of lent maps, which builds and reports are lent too.
+pub fn write(out: &mut impl Write, case: &Case, entries: &mut [u32; ENTRIES]) -> io::Result<()> {
+    match write_whole(out, case, entries) {
         Ok(()) => Ok(()),
         Err(Fault::NoCase) => writeln!(out, "no case"),
         Err(Fault::Output(error)) => Err(error),
     }
 }
 
-fn write_whole(out: &mut impl Write, case: &Case) -> Result<(), Fault> {
+// (The functions below that have arrays of their own are not inlined, so that no case takes the stack of another.)
+fn write_whole(
+    out: &mut impl Write,
+    case: &Case,
+    entries: &mut [u32; ENTRIES],
+) -> Result<(), Fault> {
     match case.kind.ok_or(Fault::NoCase)? {
         Kind::Read => write_reading(out, case.body)?,
-        Kind::Program => write_report(out, case.body)?,
-        Kind::Build => write_build(out, case)?,
-        Kind::Map => write_map(out, case)?,
+        Kind::Program => write_report(out, case.body, entries)?,
+        Kind::Build => write_build(out, case, entries)?,
+        Kind::Map => write_map(out, case, entries)?,
         Kind::Write => write_file(out, case)?,
         Kind::Steps => write_steps(out, case.body)?,
         Kind::Load => write_loading(out, case)?,
@@ -69,40 +78,50 @@ fn write_reading(out: &mut impl Write, data: &[u8]) -> io::Result<()> {
 }
 
 // What the map program writes for data.
-fn write_report(out: &mut impl Write, data: &[u8]) -> io::Result<()> {
-    let mut entries = LENT_ENTRIES;
+#[inline(never)]
+fn write_report(out: &mut impl Write, data: &[u8], entries: &mut [u32; ENTRIES]) -> io::Result<()> {
     let mut text = LENT_BYTES;
-    let length = report::write(data, &mut entries, &mut text);
+    let length = report::write(data, entries, &mut text);
     write_text(out, length, &text)
 }
 
 // The map of data, built in lent entries.
-fn write_build(out: &mut impl Write, case: &Case) -> Result<(), Fault> {
-    let mut entries = LENT_ENTRIES;
-    let lent = entries.get_mut(..case.entries).ok_or(Fault::NoCase)?;
-    match map::build(case.body, lent) {
+#[inline(never)]
+fn write_build(
+    out: &mut impl Write,
+    case: &Case,
+    entries: &mut [u32; ENTRIES],
+) -> Result<(), Fault> {
+    if entries.len() < case.entries {
+        return Err(Fault::NoCase);
+    }
+    *entries = LENT_ENTRIES;
+    match map::build(case.body, &mut entries[..case.entries]) {
         Ok(grid) => {
             let count = grid.points();
-            write_kept(out, "entries", &entries, &LENT_ENTRIES, count)?;
+            write_kept(out, "entries", entries, &LENT_ENTRIES, count)?;
             write_again(out, case.body)?;
             write_answers(out, case, &grid, &entries[..case.entries])
         }
         Err(refusal) => {
             print::write_refusal_with_index(out, refusal)?;
-            write_kept(out, "entries", &entries, &LENT_ENTRIES, 0)?;
+            write_kept(out, "entries", entries, &LENT_ENTRIES, 0)?;
             Ok(())
         }
     }
 }
 
-// A map as a caller may lend it, whatever its numbers are.
-fn write_map(out: &mut impl Write, case: &Case) -> Result<(), Fault> {
+// A map as a caller may lend it, whatever its numbers are. As many entries as the largest map has are lent whatever the body has, the
+// one more only where the body has it.
+#[inline(never)]
+fn write_map(out: &mut impl Write, case: &Case, entries: &mut [u32; ENTRIES]) -> Result<(), Fault> {
     let mut body = case.body;
     let grid = bytes::next_grid(&mut body).ok_or(Fault::NoCase)?;
-    let mut entries = LENT_ENTRIES;
-    let all = bytes::decode(body, &mut entries).ok_or(Fault::NoCase)?;
-    let lent = all.get(..case.entries).ok_or(Fault::NoCase)?;
-    write_answers(out, case, &grid, lent)
+    if (body.len() / 4).clamp(ENTRIES - 1, ENTRIES) < case.entries {
+        return Err(Fault::NoCase);
+    }
+    bytes::decode_fitting(body, entries);
+    write_answers(out, case, &grid, &entries[..case.entries])
 }
 
 // A map's listing in the lent text, and the answers to the questions. (The grid and the entries, here and below, as they are lent.)
@@ -153,6 +172,7 @@ fn same_axes(a: &Grid, b: &Grid) -> bool {
 }
 
 // The map that a listing loads to, in lent entries.
+#[inline(never)]
 fn write_loading(out: &mut impl Write, case: &Case) -> Result<(), Fault> {
     let mut entries = LENT_ENTRIES;
     let lent = entries.get_mut(..case.entries).ok_or(Fault::NoCase)?;
@@ -231,6 +251,7 @@ fn write_answer(
 }
 
 // The losses at all points of a lent map, asked in one call.
+#[inline(never)]
 fn write_losses(out: &mut impl Write, case: &Case) -> Result<(), Fault> {
     let mut body = case.body;
     let grid = bytes::next_grid(&mut body).ok_or(Fault::NoCase)?;
@@ -284,6 +305,7 @@ fn write_kept<T: PartialEq>(
 }
 
 // The file that is written from numbers in the lent bytes.
+#[inline(never)]
 fn write_file(out: &mut impl Write, case: &Case) -> Result<(), Fault> {
     let mut body = case.body;
     let numbers = bytes::next_numbers(&mut body).ok_or(Fault::NoCase)?;
@@ -316,6 +338,7 @@ fn write_steps(out: &mut impl Write, body: &[u8]) -> Result<(), Fault> {
 }
 
 // The drag of a retarder.
+#[inline(never)]
 fn write_drag(out: &mut impl Write, body: &[u8]) -> Result<(), Fault> {
     let mut body = body;
     let ratio = bytes::next_u32(&mut body).ok_or(Fault::NoCase)?;
@@ -335,7 +358,8 @@ fn write_drag(out: &mut impl Write, body: &[u8]) -> Result<(), Fault> {
 
 // Whether data that was accepted comes out the same when its numbers are written again.
 fn write_again(out: &mut impl Write, data: &[u8]) -> io::Result<()> {
-    let mut file = LENT_BYTES;
+    // no accepted data is longer
+    let mut file = [0; 24_853];
     if written_again(data, &mut file) == Some(data) {
         writeln!(out, "written again")
     } else {

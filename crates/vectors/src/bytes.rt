@@ -72,6 +72,16 @@ pub fn decode<'a>(mut bytes: &[u8], room: &'a mut [u32]) -> Option<&'a [u32]> {
     Some(numbers)
 }
 
+// As many of the numbers as there are and as fit, at the front of the room; what stands behind them stays.
+pub fn decode_fitting(mut bytes: &[u8], room: &mut [u32]) {
+    for number in room.iter_mut() {
+        let Some(next) = next_u32(&mut bytes) else {
+            break;
+        };
+        *number = next;
+    }
+}
+
 // All the points there are, at the front of the room. None where there is too little room.
 pub fn decode_points<'a>(mut bytes: &[u8], room: &'a mut [Point]) -> Option<&'a [Point]> {
     let points = room.get_mut(..bytes.len() / 8)?;
