@@ -31,8 +31,8 @@ pub fn root_up(n: u64) -> u64
     }
 }
 
-// The root of n rounded up, from that rounded down. (Cold and by itself, so that it takes no room where a root is asked. 0 is the
-// one number of a row that comes here, for the least guess is 1: a sensor without influence has it in every row.)
+// The root of n rounded up, from that rounded down. (Cold and by itself, so that it takes no room where a root is asked. 0 comes
+// here, for the least guess is 1, and a sensor without influence has it in every row.)
 #[cold]
 #[inline(never)]
 #[tactic(auto, using(crate::proofs::Roots::root_of_zero, crate::proofs::Roots::exact_is_root_up, crate::proofs::Roots::next_is_root_up))]
